@@ -1,0 +1,11 @@
+pub mod Ring
+pub mod Field
+pub mod Cases
+pub mod Sum
+pub mod Series
+pub mod Polynomial
+pub mod Matrix
+pub mod Elementary
+pub mod Residue
+pub mod PrimeField
+pub mod Primality

@@ -1,0 +1,85 @@
+-- The laws of matrices: agreement, rows, and products with the identity.
+use mathlib.Core.Path.{_≡_, refl, sym, _∙_, ap, ap₂, fun-ext}
+use mathlib.Core.Logic.{_≢_}
+use Prim.Native.Nat.{ℕ, _<_}
+use Rattle.algebra.specs.Ring.{CommRing}
+use Rattle.algebra.specs.Sum.{sum}
+use Rattle.algebra.specs.Matrix.{Mat, Same, transpose, setrow, product, identity}
+use Rattle.algebra.proofs.Ring as Ring
+use Rattle.algebra.proofs.Cases.{if-equal-same, if-equal-other, if-equal-iff, if-equal-ap}
+use Rattle.algebra.proofs.Sum.{sum-cong, sum-single, sum-swap, sum-mul, mul-sum}
+
+module _ {F : Type 0} where
+  pub same-refl : (n m : ℕ) (A : Mat F) → Same n m A A
+  same-refl n m A i j li lj = refl
+
+  pub same-sym : (n m : ℕ) (A B : Mat F) → Same n m A B → Same n m B A
+  same-sym n m A B h i j li lj = sym (h i j li lj)
+
+  pub same-trans : (n m : ℕ) (A B C : Mat F) → Same n m A B → Same n m B C → Same n m A C
+  same-trans n m A B C h g i j li lj = h i j li lj ∙ g i j li lj
+
+  pub setrow-same : (A : Mat F) (r : ℕ) (u : ℕ → F) → setrow A r u r ≡ u
+  unfolding setrow
+  setrow-same A r u = if-equal-same r u (A r)
+
+  pub setrow-other : (A : Mat F) (r : ℕ) (u : ℕ → F) (i : ℕ) → i ≢ r → setrow A r u i ≡ A i
+  unfolding setrow
+  setrow-other A r u i ne = if-equal-other i r u (A i) ne
+
+module _ {F : Type 0} (R : CommRing F) where
+  infixl 70 _⊛_
+  open CommRing R using (mul as _⊛_, 𝟘, 𝟙, mul-comm, mul-assoc)
+
+  pub identity-same : (i : ℕ) → identity R i i ≡ 𝟙
+  unfolding identity
+  identity-same i = if-equal-same i 𝟙 𝟘
+
+  pub identity-other : (i j : ℕ) → i ≢ j → identity R i j ≡ 𝟘
+  unfolding identity
+  identity-other i j ne = if-equal-other i j 𝟙 𝟘 ne
+
+  -- an entry of the identity depends only on whether its row and its column are equal
+  pub identity-iff : (i j k l : ℕ) → (i ≡ j → k ≡ l) → (k ≡ l → i ≡ j) → identity R i j ≡ identity R k l
+  unfolding identity
+  identity-iff i j k l f g = if-equal-iff i j k l 𝟙 𝟘 f g
+
+  pub product-assoc : (n m : ℕ) (A B C : Mat F) → product R m (product R n A B) C ≡ product R n A (product R m B C)
+  unfolding product
+  product-assoc n m A B C = fun-ext (λ i. fun-ext (λ j.
+      ap (sum R m) (fun-ext (λ k. sum-mul R n (C k j) (λ l. A i l ⊛ B l k)))
+      ∙ sum-swap R m n (λ k l. A i l ⊛ B l k ⊛ C k j)
+      ∙ ap (sum R n) (fun-ext (λ l.
+      ap (sum R m) (fun-ext (λ k. mul-assoc (A i l) (B l k) (C k j)))
+      ∙ sym (mul-sum R m (A i l) (λ k. B l k ⊛ C k j))))))
+
+  pub product-same : (n k m : ℕ) (A A′ B B′ : Mat F) → Same n k A A′ → Same k m B B′ → Same n m (product R k A B) (product R k A′ B′)
+  unfolding product
+  product-same n k m A A′ B B′ a b i j li lj = sum-cong R k _ _ (λ l p. ap₂ _⊛_ (a i l li p) (b l j p lj))
+
+  -- a product turned: its rows become columns, and the factors change places
+  pub product-turned : (n : ℕ) (A B B′ : Mat F) (i j : ℕ) → ((k : ℕ) → k < n → B k j ≡ B′ j k)
+      → product R n A B i j ≡ product R n B′ (transpose A) j i
+  unfolding product
+  product-turned n A B B′ i j h = sum-cong R n _ _ (λ k l. mul-comm (A i k) (B k j) ∙ ap (λ x. x ⊛ A i k) (h k l))
+
+  pub identity-product : (n m : ℕ) (A : Mat F) → Same n m (product R n (identity R) A) A
+  unfolding product
+  identity-product n m A i j li lj =
+      sum-single R n i (λ k. identity R i k ⊛ A k j) li (λ k l ne.
+      ap (λ x. x ⊛ A k j) (identity-other i k (λ e. ne (sym e))) ∙ Ring.zero-mul R (A k j))
+      ∙ ap (λ x. x ⊛ A i j) (identity-same i)
+      ∙ Ring.one-mul R (A i j)
+
+  pub product-identity : (n m : ℕ) (A : Mat F) → Same n m (product R m A (identity R)) A
+  product-identity n m A i j li lj =
+      product-turned m A (identity R) (identity R) i j (λ k _. identity-iff k j j k sym sym)
+      ∙ identity-product m n (transpose A) j i lj li
+
+  -- a row of a product is made of that row of the left factor alone
+  pub setrow-product : (n : ℕ) (B : Mat F) (r : ℕ) (u : ℕ → F) (A : Mat F) (i j : ℕ)
+      → product R n (setrow B r u) A i j ≡ setrow (product R n B A) r (λ k. sum R n (λ l. u l ⊛ A l k)) i j
+  unfolding product setrow
+  setrow-product n B r u A i j =
+      if-equal-ap (λ v. sum R n (λ l. v l ⊛ A l j)) i r u (B i)
+      ∙ sym (if-equal-ap (λ v. v j) i r (λ k. sum R n (λ l. u l ⊛ A l k)) (product R n B A i))

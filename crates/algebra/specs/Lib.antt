@@ -1,0 +1,9 @@
+pub mod Ring
+pub mod Field
+pub mod Cases
+pub mod Sum
+pub mod Series
+pub mod Polynomial
+pub mod Matrix
+pub mod Prime
+pub mod Residue
