@@ -1,0 +1,4 @@
+pub mod Change
+pub mod Part
+pub mod Last
+pub mod Total
