@@ -1,0 +1,3 @@
+pub mod Modulus
+pub mod Polynomial
+pub mod Reading
