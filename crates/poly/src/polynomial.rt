@@ -14,7 +14,7 @@ use crate::residue::Residue;
 pub struct Degree(pub i64);
 
 // The coefficient at degree i, 0 past the places.
-pub fn coefficient(a: &[u16], i: usize) -> u16
+fn coefficient(a: &[u16], i: usize) -> u16
     ensures { λ r. ⌜ r ≡ getD (now (a .entry)) i 0 ⌝ }
 {
     if i < a.len() { a[i] } else { 0 }
@@ -94,8 +94,9 @@ pub fn add_multiple(a: &mut [u16], b: &[u16], c: Residue, e: usize, m: Modulus)
         return;
     }
     let n = b.len() - excess(b.len(), a.len() - e);
-    let end = e + n;
-    add_scaled(&mut a[e..end], &b[..n], c, m);
+    let start = e;
+    let end = start + n;
+    add_scaled(&mut a[start..end], &b[..n], c, m);
 }
 
 // The sum of a_i·b_(k-i), over the places that both have.

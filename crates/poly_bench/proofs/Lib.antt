@@ -1,0 +1,2 @@
+mod Repeat
+mod Answers
