@@ -1,0 +1,16 @@
+pub mod Process
+pub mod Index
+pub mod Pivot
+pub mod Pair
+pub mod Lowering
+pub mod Ending
+pub mod SingleStep
+pub mod WeakPopov
+pub mod Counts
+pub mod Transforms
+pub mod Degrees
+pub mod Triangular
+pub mod Combination
+pub mod Listed
+pub mod Largest
+pub mod Facts

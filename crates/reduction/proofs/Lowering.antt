@@ -1,0 +1,145 @@
+-- A step lowers the value of row l, keeps the bound on the degrees and changes no other row.
+use mathlib.Core.Path.{_≡_, sym, _∙_, ap, ap₂}
+use mathlib.Core.Logic.{_≢_}
+use Prim.Native.Nat.{ℕ, suc, _-_, _≤_, _<_}
+use native.Mathlib.Omega.{arith}
+use native.Mathlib.Decide.{ℕ-discrete}
+use Rattle.algebra.specs.Ring.{CommRing}
+use Rattle.algebra.specs.Field.{Field}
+use Rattle.algebra.specs.Polynomial.{Degree}
+use Rattle.algebra.proofs.Ring as Ring
+use Rattle.algebra.proofs.Series.{series, mono-same, neg-at}
+use Rattle.algebra.proofs.Polynomial.{below-add}
+use Rattle.algebra.proofs.Matrix.{setrow-same, setrow-other}
+use Rattle.lattice.specs.Term.{term, up, TermOrder}
+use Rattle.lattice.specs.Row.{Row, coef, Bounded, plus, scale}
+use Rattle.lattice.specs.Lead.{Lead}
+use Rattle.lattice.specs.PolynomialMatrix.{AllBounded}
+use Rattle.lattice.proofs.Coefficients.{degree-mono, degree-neg}
+use Rattle.lattice.proofs.DegreeOverPosition.{degree-over-position}
+use Rattle.lattice.proofs.Lead.{lead-scale, lead-scale-coef, cancel-under}
+use Rattle.reduction.specs.Pivot.{value, values, pivot, height, Clash}
+use Rattle.reduction.specs.Pair.{Reducing}
+use Rattle.reduction.specs.Step.{leading, factor, reduce-row}
+use Rattle.reduction.proofs.Index.{key-pivot, height-some, height-bound, clash-first, clash-second, clash-columns}
+use Rattle.reduction.proofs.Pivot.{value-bound, value-lead, under-value, lead-bounded}
+
+-- (a / b) b = a
+divided : {F : Type 0} (K : Field F) (a b : F) → b ≢ K .ring .𝟘 → K .ring .mul (K .ring .mul a (K .inv b)) b ≡ a
+divided K a b ne =
+    K .ring .mul-assoc a (K .inv b) b ∙ ap (K .ring .mul a) (Ring.mul-comm (K .ring) (K .inv b) b ∙ K .mul-inv b ne) ∙ K .ring .mul-one a
+
+module _ {F : Type 0} (K : Field F) (m size : ℕ) where
+  infixl 65 _⊕_
+  infixl 70 _⊛_
+  open CommRing (K .ring) using (add as _⊕_, mul as _⊛_, neg, 𝟘)
+
+  abbrev T : TermOrder m
+  T = degree-over-position m
+
+  abbrev v : Row F → ℕ
+  v = value K m size
+
+  -- rows f and g of the same non-zero pivot index, f of no smaller height
+  module _ (f g : Row F) (bf : Bounded (K .ring) m size f) (bg : Bounded (K .ring) m size g)
+      (c : Clash m (v f) (v g)) (d : height m (v g) ≤ height m (v f)) where
+    abbrev e : ℕ
+    e = height m (v f) - height m (v g)
+
+    abbrev q : ℕ → F
+    q = factor K m size f g
+
+    -- the two leading coefficients
+    abbrev a : F
+    a = leading K m size f
+
+    abbrev b : F
+    b = leading K m size g
+
+    abbrev minus : ℕ → F
+    minus = series (K .ring) .neg q
+
+    -- - c x^e g, and f - c x^e g
+    abbrev multiple : Row F
+    multiple = scale (K .ring) minus g
+
+    abbrev difference : Row F
+    difference = plus (K .ring) f multiple
+
+    lead-f : Lead (K .ring) T (pivot m (v f)) f
+    lead-f = value-lead K m size f bf (clash-first c)
+
+    lead-g : Lead (K .ring) T (pivot m (v g)) g
+    lead-g = value-lead K m size g bg (clash-second c)
+
+    height-f : height m (v f) ≡ suc (pivot m (v f) .deg)
+    height-f = height-some m (v f) (clash-first c)
+
+    shifted : up e (pivot m (v g)) ≡ pivot m (v f)
+    shifted = ap₂ term (sym (clash-columns c)) (omega (arith, height-f, height-some m (v g) (clash-second c)))
+
+    pub factor-degree : Degree (K .ring) q e
+    unfolding factor
+    factor-degree = degree-mono (K .ring) _ e (λ z. lead-f .top
+        (sym (divided K a b (lead-g .top)) ∙ ap (λ x. x ⊛ b) z ∙ Ring.zero-mul (K .ring) _))
+
+    minus-degree : Degree (K .ring) minus e
+    minus-degree = degree-neg (K .ring) q e factor-degree
+
+    minus-at : minus e ≡ neg (a ⊛ K .inv b)
+    unfolding factor
+    minus-at = neg-at (K .ring) _ e ∙ ap neg (mono-same (K .ring) _ e)
+
+    -- its leading term is that of f, with the opposite coefficient
+    lead-multiple : Lead (K .ring) T (pivot m (v f)) multiple
+    lead-multiple = rw shifted at (lead-scale K T minus g e (pivot m (v g)) minus-degree lead-g)
+
+    cancels : a ⊕ coef multiple (pivot m (v f)) ≡ 𝟘
+    cancels =
+        ap (λ x. a ⊕ x)
+        (ap (coef multiple) (sym shifted)
+        ∙ lead-scale-coef (K .ring) T minus g e (pivot m (v g)) minus-degree lead-g
+        ∙ ap (λ x. x ⊛ b) minus-at
+        ∙ Ring.neg-mul (K .ring) _ _
+        ∙ ap neg (divided K a b (lead-g .top)))
+        ∙ K .ring .add-neg a
+
+    difference-bounded : Bounded (K .ring) m size difference
+    unfolding plus
+    difference-bounded x l = below-add (K .ring) (f x) _ size (bf x l)
+        (lead-bounded (K .ring) m size _ (pivot m (v f)) lead-multiple
+        (omega (arith, height-f, height-bound m size (v f) (value-bound K m size f bf))) x l)
+
+    difference-value : v difference < v f
+    difference-value =
+        let u = cancel-under (K .ring) T (pivot m (v f)) f multiple lead-f lead-multiple cancels in
+        omega (arith, under-value K m size difference difference-bounded (pivot m (v f)) u, key-pivot m (v f), clash-first c)
+
+module _ {F : Type 0} (K : Field F) (n m size : ℕ) (M : ℕ → Row F) (l k : ℕ) where
+  abbrev M′ : ℕ → Row F
+  M′ = reduce-row K m size l k M
+
+  -- what the step with the rows l and k does
+  pub record Lowered : Type 0 where
+    pub reducing : Reducing n m (values K m size M) l k
+    pub bounded : AllBounded (K .ring) n m size M′
+    pub lower : value K m size (M′ l) < value K m size (M l)
+    pub others : (i : ℕ) → i ≢ l → M′ i ≡ M i
+
+  pub lowered : AllBounded (K .ring) n m size M → Reducing n m (values K m size M) l k → Lowered
+  unfolding plus scale
+  lowered b r = record {
+    reducing = r;
+    bounded = λ i li. elim (ℕ-discrete i l) [
+      | yes e ↦ rw (e, setrow-same) (difference-bounded K m size (M l) (M k) (b l (r .l-fits)) (b k (r .k-fits)) (r .clash) (r .degrees))
+      | no ne ↦ rw (setrow-other M l _ i ne) (b i li)
+    ];
+    lower = rw setrow-same (difference-value K m size (M l) (M k) (b l (r .l-fits)) (b k (r .k-fits)) (r .clash) (r .degrees));
+    others = setrow-other M l _;
+  }
+
+  pub value-le : Lowered → (i : ℕ) → value K m size (M′ i) ≤ value K m size (M i)
+  value-le w i = elim (ℕ-discrete i l) [
+    | yes e ↦ (let h = w .lower in rw e (omega arith))
+    | no ne ↦ rw (w .others i ne) (omega arith)
+  ]
