@@ -9,3 +9,4 @@ pub mod Elementary
 pub mod Residue
 pub mod PrimeField
 pub mod Primality
+pub mod Flag

@@ -46,6 +46,13 @@ upto-later (suc n) f [] j h = refl
 upto-later (suc n) f (x ∷ l) zero h = absurd (not-suc-le-zero h)
 upto-later (suc n) f (x ∷ l) (suc j) h = upto-later n (λ i. f (suc i)) l j (le-of-suc-le-suc h)
 
+upto-done : (n : ℕ) (f : ℕ → ℕ → ℕ) (l : List ℕ) (j : ℕ) → j < n → j < length l → getD (upto n f l) j 0 ≡ f j (getD l j 0)
+unfolding upto
+upto-done n f [] j h k = absurd (not-suc-le-zero k)
+upto-done zero f (x ∷ l) j h k = absurd (not-suc-le-zero h)
+upto-done (suc n) f (x ∷ l) zero h k = refl
+upto-done (suc n) f (x ∷ l) (suc j) h k = upto-done n (λ i. f (suc i)) l j (le-of-suc-le-suc h) (le-of-suc-le-suc k)
+
 upto-more : (n : ℕ) (f : ℕ → ℕ → ℕ) (l : List ℕ) → n < length l → set (upto n f l) n (f n (getD l n 0)) ≡ upto (suc n) f l
 unfolding upto
 upto-more n f [] h = absurd (not-suc-le-zero h)
@@ -73,6 +80,10 @@ module _ (f : ℕ → ℕ → ℕ) (l₀ l : List ℕ) (i : ℕ) (c : Changing f
     same = length-set l i v ∙ c .same;
     now = ap₂ (λ (t : List ℕ) (x : ℕ). set t i x) (c .now) (v-is ∙ ap (f i) changing-next) ∙ upto-more i f l₀ h ∙ ap (λ (n : ℕ). upto n f l₀) (sym (add-one i));
   }
+
+  -- what it has passed follows the rule
+  pub changing-past : (j : ℕ) → j < i → getD l j 0 ≡ f j (getD l₀ j 0)
+  changing-past j h = ap (λ (t : List ℕ). getD t j 0) (c .now) ∙ upto-done i f l₀ j h (omega (arith, c .to))
 
   pub changing-end : length l₀ ≤ i → l ≡ imap f l₀
   changing-end h = c .now ∙ upto-all i f l₀ h

@@ -49,3 +49,17 @@ last-is (suc n) f = go (last-is n f) (ℕ-discrete (f (suc n - 1)) 0)
       top = before .top;
     })
     go before (no ne) = subst (IsLast (suc n) f) (sym (last-here (suc n) f (omega arith) ne)) (record { within = omega arith; zeros = λ i l h. absurd (omega arith); top = λ h. ne })
+
+-- and nothing else is so
+pub last-unique : (n : ℕ) (f : ℕ → ℕ) (r : ℕ) → IsLast n f r → lastNonzero n f ≡ r
+last-unique n f r x = same (lastNonzero n f) r (last-is n f) x
+  where
+    -- of two such places neither is the greater
+    not-less : (a b : ℕ) → IsLast n f a → IsLast n f b → a < b → ⊥
+    not-less a b x y l = y .top (omega arith) (x .zeros (b - 1) (omega arith) (omega (arith, y .within)))
+
+    same : (a b : ℕ) → IsLast n f a → IsLast n f b → a ≡ b
+    same a b x y = elim (decLe a b) [
+      | yes l ↦ elim (decLe b a) [ yes g ↦ omega arith | no g ↦ absurd (not-less a b x y (omega arith)) ]
+      | no g ↦ absurd (not-less b a y x (omega arith))
+    ]

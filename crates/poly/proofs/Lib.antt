@@ -1,4 +1,3 @@
-pub mod Flag
 pub mod Width
 pub mod Reciprocal
 pub mod Inverting

@@ -1,7 +1,8 @@
 use native.Mathlib.Omega.{arith}
 use borrow.Author.Needs.{needs}
 use borrow.Author.Tests.{not-true, not-false}
-use Rattle.poly_bench.proofs.Answers.{denied, add-refused, add-done}
+use Rattle.algebra.proofs.Flag.{denied}
+use Rattle.poly_bench.proofs.Answers.{add-refused, add-done}
 use Rattle.poly.specs.Modulus.{Accepted}
 use Rattle.poly.proofs.Asked.{in-range}
 use Rattle.poly_bench.proofs.poly_bench_add.Statement.{statement}

@@ -1,7 +1,8 @@
 use native.Mathlib.Omega.{arith}
 use borrow.Author.Needs.{needs}
 use borrow.Author.Tests.{not-true, not-false}
-use Rattle.poly_bench.proofs.Answers.{denied, product-refused, product-done}
+use Rattle.algebra.proofs.Flag.{denied}
+use Rattle.poly_bench.proofs.Answers.{product-refused, product-done}
 use Rattle.poly.specs.Modulus.{Accepted}
 use Rattle.poly.proofs.Asked.{in-range, product-room}
 use Rattle.poly_bench.proofs.poly_bench_product.Statement.{statement}

@@ -6,7 +6,7 @@ use lib.ListN.{length, getD}
 use borrow.Author.Count.{below-more}
 use Rattle.lists.proofs.Change.{getD-past}
 use Rattle.poly.specs.Polynomial.{SamePolynomial}
-use Rattle.poly.proofs.Flag.{says-yes, says-no}
+use Rattle.algebra.proofs.Flag.{says-yes, says-no}
 use Rattle.poly.proofs.Places.{same-upto}
 use Rattle.poly.proofs.polynomial.equal.Statement.{statement}
 use Rattle.poly.proofs.polynomial.equal.Tie as tie

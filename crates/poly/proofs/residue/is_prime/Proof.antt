@@ -5,7 +5,7 @@ use native.Mathlib.Omega.{arith}
 use native.Mathlib.Nat.{lt-of-le-of-lt, div-lt-self, div-lt-iff-lt-mul}
 use Prim.Native.Nat.{_≤_, _<_, _+_, _-_}
 use Rattle.algebra.proofs.Primality.{NoneBelow, by-root}
-use Rattle.poly.proofs.Flag.{says-yes, says-no}
+use Rattle.algebra.proofs.Flag.{says-yes, says-no}
 use Rattle.poly.proofs.residue.is_prime.Statement.{statement}
 use Rattle.poly.proofs.residue.is_prime.Tie as tie
 

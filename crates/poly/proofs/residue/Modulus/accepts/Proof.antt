@@ -1,6 +1,6 @@
 use borrow.Author.Needs.{needs}
 use native.Mathlib.Omega.{arith}
-use Rattle.poly.proofs.Flag.{says-no}
+use Rattle.algebra.proofs.Flag.{says-no}
 use Rattle.poly.proofs.residue.Modulus.accepts.Statement.{statement}
 use Rattle.poly.proofs.residue.Modulus.accepts.Tie as tie
 

@@ -1,0 +1,5 @@
+pub mod Grid
+pub mod Search
+pub mod Bits
+pub mod Choice
+pub mod Next

@@ -1,0 +1,20 @@
+use native.Mathlib.Omega.{arith}
+use borrow.Author.Needs.{needs}
+use Rattle.algebra.proofs.Flag.{denied}
+use Rattle.pivots.proofs.pair.next_rows.Statement.{statement}
+use Rattle.pivots.proofs.pair.next_rows.Tie as tie
+
+second-requires : tie.Need-second-requires
+second-requires c κs = search needs
+
+choose-requires : tie.Need-choose-requires
+choose-requires c κs = search needs
+
+returns : tie.Need-returns
+returns c = search needs
+
+returns-2 : tie.Need-returns-2
+returns-2 c = λ i j l f m. denied (c .before .second .ensures) (c .if1 .left) (record { a = i; b = j; ordered = l; fits = f; meets = m })
+
+pub next-rows-spec : {M : Type 1} → statement M
+next-rows-spec = tie.close (tie.spec second-requires choose-requires returns returns-2)

@@ -1,0 +1,121 @@
+use borrow.Author.Needs.{needs}
+use native.Mathlib.Omega.{arith}
+use mathlib.Core.Path.{_≡_, sym, ap, _∙_}
+use Prim.Native.Nat.{_+_, _*_, _-_, _≤_}
+use native.Mathlib.Nat.{zero-mul, add-mul, one-mul}
+use Rattle.lists.proofs.Change.{Changing, changing-start, changing-turn, changing-past}
+use Rattle.reduction.specs.Pivot as Reduction
+use Rattle.pivots.specs.Pivot.{valueOf, rowOf}
+use lib.ListN.{length}
+use denote.Ref.{now}
+use Rattle.pivots.proofs.Search.{row-part, row-asked}
+use Rattle.pivots.proofs.Grid.{line-end, one-line}
+use Rattle.pivots.proofs.pivot.all.Statement.{statement}
+use Rattle.pivots.proofs.pivot.all.Tie as tie
+
+abbrev Inv-loop : tie.InvT-loop
+Inv-loop r index₀ degree₀ n m w s at₀ i₀ index degree at i =
+    (i ≤ n) × (at ≡ i * (m * w))
+    × Changing (λ j x. Reduction.index m (valueOf m w (rowOf m w r j))) index₀ index i
+    × Changing (λ j x. Reduction.height m (valueOf m w (rowOf m w r j))) degree₀ degree i
+
+abbrev μ-loop : tie.MeasureT-loop
+μ-loop r index₀ degree₀ n m w s at₀ i₀ index degree at i = n - i
+
+-- row i ends within the matrix
+ends : (c : tie.In-loop Inv-loop μ-loop) → let args = c .before .before .before .before .before .args in c .before .loop .at + args .m * args .w ≤ length (now (args .r))
+ends c =
+    let start = c .before .before .before .before .before in
+    omega (arith, c .before .loop .inv .1, start .pre .size, line-end (c .before .loop .i) (start .args .n) (start .args .m * start .args .w) (c .loop-test .taken))
+
+mul-s : tie.Need-mul-s Inv-loop μ-loop
+mul-s c =
+    let start = c .before .before .before in
+    omega (arith, start .pre .size, one-line (start .args .n) (start .args .m * start .args .w) (start .pre .rows))
+
+loop-holds : tie.Need-loop-holds Inv-loop μ-loop
+loop-holds c = (omega arith, sym (zero-mul _), changing-start _ _, changing-start _ _)
+
+add-end : tie.Need-add-end Inv-loop μ-loop
+add-end c = omega (arith, ends c)
+
+mul-of : tie.Need-mul-of Inv-loop μ-loop
+mul-of c = omega (arith, ends c)
+
+sub-of : tie.Need-sub-of Inv-loop μ-loop
+sub-of c = omega arith
+
+part-of-start : tie.Need-part-of-start Inv-loop μ-loop
+part-of-start c = omega arith
+
+part-of-end : tie.Need-part-of-end Inv-loop μ-loop
+part-of-end c = ends c
+
+of-requires : tie.Need-of-requires Inv-loop μ-loop
+of-requires c κs = row-asked _ _ _ _ _ (c .before .before .loop .inv .1) (c .before .before .before .before .before .before .pre .columns) (ends (c .before))
+
+mul-index : tie.Need-mul-index Inv-loop μ-loop
+mul-index c = omega arith
+
+slice-write-index : tie.Need-slice-write-index Inv-loop μ-loop
+slice-write-index c = omega arith
+
+mul-degree : tie.Need-mul-degree Inv-loop μ-loop
+mul-degree c = omega arith
+
+slice-write-degree : tie.Need-slice-write-degree Inv-loop μ-loop
+slice-write-degree c = omega arith
+
+add-i : tie.Need-add-i Inv-loop μ-loop
+add-i c = omega arith
+
+loop-less : tie.Need-loop-less Inv-loop μ-loop
+loop-less c = omega arith
+
+loop-again : tie.Need-loop-again Inv-loop μ-loop
+loop-again c =
+    let head = c .before .before .before in
+    let start = head .before .before .before .before in
+    let inv = head .loop .inv in
+    let same = ap (valueOf _ _) (row-part (start .args .m) (start .args .w) _ _ (now (start .args .r)) (inv .1)) in (
+      omega arith,
+      omega (arith, inv .1, add-mul (head .loop .i) 1 (start .args .m * start .args .w), one-mul (start .args .m * start .args .w)),
+      changing-turn _ _ _ _ (inv .2) _ (omega (arith, start .pre .index-room)) (c .of .ensures .index-is ∙ ap (Reduction.index (start .args .m)) same),
+      changing-turn _ _ _ _ (inv .3) _ (omega (arith, start .pre .degree-room)) (c .of .ensures .degree-is ∙ ap (Reduction.height (start .args .m)) same),
+    )
+
+same-length : tie.Need-same-length Inv-loop μ-loop
+same-length c = c .before .loop .inv .2 .same
+
+same-length-2 : tie.Need-same-length-2 Inv-loop μ-loop
+same-length-2 c = c .before .loop .inv .3 .same
+
+returns : tie.Need-returns Inv-loop μ-loop
+returns c =
+    let inv = c .before .loop .inv in
+    record { row = λ i h. record { index-is = changing-past _ _ _ _ (inv .2) i (omega arith); degree-is = changing-past _ _ _ _ (inv .3) i (omega arith) } }
+
+pub all-spec : {M : Type 1} → statement M
+all-spec =
+    tie.close
+    (tie.spec
+    Inv-loop
+    μ-loop
+    mul-s
+    loop-holds
+    add-end
+    mul-of
+    sub-of
+    part-of-start
+    part-of-end
+    of-requires
+    mul-index
+    slice-write-index
+    mul-degree
+    slice-write-degree
+    add-i
+    loop-less
+    loop-again
+    same-length
+    same-length-2
+    returns)
