@@ -1,5 +1,5 @@
 -- The rows that are chosen by pivot indices and degrees are those of the pair of the rows' values.
-use mathlib.Core.Path.{_≡_, refl, sym, ap₂, _∙_}
+use mathlib.Core.Path.{_≡_, refl, sym, ap₂, subst, _∙_}
 use mathlib.Core.Logic.{_⊎_, inl, inr}
 use mathlib.Core.List.{List}
 use Prim.Native.Nat.{ℕ, _≤_, _<_}
@@ -55,7 +55,10 @@ module _ (n m : ℕ) (v : ℕ → ℕ) (indices degrees : List ℕ) (p : Pivots 
       go (inr (h, e, q)) (yes z) = absurd (omega (arith, a-is, b-is))
       go (inr (h, e, q)) (no _) = ap₂ (λ (s t : ℕ). (s, t)) (sym e) (sym q)
 
-  pub next-of : (x : Next) → IsNext n indices degrees x → IsNextOf n m v x
+  next-of : (x : Next) → IsNext n indices degrees x → IsNextOf n m v x
   unfolding pair-of
   next-of Nothing h = λ i j l f c. h i j l f (meets i j (omega arith) f c)
   next-of (Rows l k) x = (pair-of l k x, turned l k x)
+
+  pub next-is : (x y : Next) → IsNext n indices degrees x → x ≡ y → IsNextOf n m v y
+  next-is x y h e = next-of y (subst (IsNext n indices degrees) e h)

@@ -2,14 +2,14 @@
 use mathlib.Core.Path.{_≡_, refl, sym, ap, ap₂, _∙_}
 use mathlib.Core.Logic.{_≢_}
 use mathlib.Core.List.{List}
-use Prim.Native.Nat.{ℕ, suc, _+_, _-_, _*_, _/_, _%_, _≤_, _<_}
+use Prim.Native.Nat.{ℕ, zero, suc, _+_, _-_, _*_, _/_, _%_, _≤_, _<_}
 use native.Mathlib.Nat as N
 use native.Mathlib.Decide.{decLe}
 use native.Mathlib.Omega.{arith}
 use lib.ListN.{length, getD, take, drop}
 use Rattle.lists.specs.Last.{lastNonzero}
 use Rattle.lists.proofs.Last.{last-nil, last-zero, last-here, IsLast, last-is, last-unique}
-use Rattle.lists.proofs.Part.{length-part}
+use Rattle.lists.proofs.Part.{length-part, getD-part}
 use Rattle.reduction.specs.Pivot.{index, height}
 use Rattle.reduction.proofs.Index.{index-some, height-some}
 use Rattle.pivots.specs.Pivot.{Line, RowAsked, IsPivotOf, valueOf, rowOf}
@@ -18,6 +18,14 @@ use Rattle.pivots.proofs.Grid.{line-less, within, one-line}
 -- the coefficients of degree t
 abbrev pub line : List ℕ → ℕ → ℕ → ℕ → ℕ
 line row w t c = getD row (c * w + t) 0
+
+-- a value is at most its height's lines
+height-above : (m v : ℕ) → 0 < m → v ≤ height m v * m
+unfolding height
+height-above m zero columns = omega arith
+height-above m (suc x) columns =
+    let less : suc x - 1 ≡ x = omega arith in
+    rw less (omega (arith, N.div-add-mod' x m, N.mod-lt x columns, N.suc-mul (x / m) m))
 
 -- where the search of a line stands: the columns from c on are zero
 pub record Searching (row : List ℕ) (m w t c at : ℕ) : Type 0 where
@@ -136,14 +144,31 @@ zeros-more m w t row low zeros none c s lc from to = elim (decLe t s) [
       ap (λ (y : ℕ). getD row (c * w + y) 0) this ∙ last-is m (line row w (t - 1)) .zeros c (omega (arith, none)) lc)
 ]
 
+-- from its height on a row is zero
+pub past-height : (m w : ℕ) (row : List ℕ) → 0 < m → (c t : ℕ) → c < m → height m (valueOf m w row) ≤ t → t < w → getD row (c * w + t) 0 ≡ 0
+unfolding valueOf
+past-height m w row columns c t lc from to =
+    let column : (t * m + c) % m ≡ c = N.mul-add-mod-self-right t m c ∙ N.mod-eq-of-lt lc in
+    let degree : (t * m + c) / m ≡ t = N.mul-add-div-right columns t c ∙ ap (λ (y : ℕ). t + y) (N.div-eq-of-lt lc) ∙ N.add-zero t in
+    sym (ap₂ (λ (x y : ℕ). getD row (x * w + y) 0) column degree)
+    ∙ last-is (w * m) (λ x. getD row (x % m * w + x / m) 0) .zeros (t * m + c) late (omega (arith, within t c w m to lc))
+  where
+    late : valueOf m w row ≤ t * m + c
+    late = omega (arith, height-above m (valueOf m w row) columns, N.mul-le-mul-right m from)
+
 -- the part of a matrix that starts where row i does
 pub row-part : (m w at i : ℕ) (r : List ℕ) → at ≡ i * (m * w) → take (at + m * w - at) (drop at r) ≡ rowOf m w r i
 row-part m w at i r e = ap₂ (λ (n a : ℕ). take n (drop a r)) (N.add-sub-cancel-left at (m * w)) e
 
-pub row-asked : (m w at i : ℕ) (r : List ℕ) → at ≡ i * (m * w) → 0 < m → at + m * w ≤ length r → RowAsked m w w (take (at + m * w - at) (drop at r))
-row-asked m w at i r e columns fits = record {
+pub row-asked : (m w top at i : ℕ) (r : List ℕ) → at ≡ i * (m * w) → 0 < m → at + m * w ≤ length r → top ≤ w
+    → ((c t : ℕ) → c < m → top ≤ t → t < w → getD r (i * (m * w) + (c * w + t)) 0 ≡ 0) → RowAsked m w top (take (at + m * w - at) (drop at r))
+row-asked m w top at i r e columns fits within-w zeros = record {
   size = rw (N.add-sub-cancel-left at (m * w)) (length-part at (m * w) r fits);
   columns = columns;
-  within = omega arith;
-  zeros = λ c t _ from to. absurd (omega arith);
+  within = within-w;
+  zeros = λ c t lc from to.
+      ap (λ (n : ℕ). getD (take n (drop at r)) (c * w + t) 0) (N.add-sub-cancel-left at (m * w))
+      ∙ getD-part at (m * w) r fits (c * w + t) (within c t m w lc to)
+      ∙ ap (λ (a : ℕ). getD r (a + (c * w + t)) 0) e
+      ∙ zeros c t lc from to;
 }

@@ -52,7 +52,7 @@ part-of-end : tie.Need-part-of-end Inv-loop μ-loop
 part-of-end c = ends c
 
 of-requires : tie.Need-of-requires Inv-loop μ-loop
-of-requires c κs = row-asked _ _ _ _ _ (c .before .before .loop .inv .1) (c .before .before .before .before .before .before .pre .columns) (ends (c .before))
+of-requires c κs = row-asked _ _ _ _ _ _ (c .before .before .loop .inv .1) (c .before .before .before .before .before .before .pre .columns) (ends (c .before)) (omega arith) (λ d t _ from to. absurd (omega arith))
 
 mul-index : tie.Need-mul-index Inv-loop μ-loop
 mul-index c = omega arith

@@ -1,0 +1,4 @@
+pub mod Place
+pub mod Held
+pub mod Added
+pub mod Diagonal

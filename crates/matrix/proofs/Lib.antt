@@ -1,0 +1,7 @@
+pub mod Value
+pub mod Moving
+pub mod Quotient
+pub mod Following
+pub mod Loop
+pub mod RowsOf
+pub mod Running

@@ -1,0 +1,229 @@
+-- The loop of the reduction: what is true of the buffers before every step and after the last.
+use mathlib.Core.Path.{_≡_, sym, _∙_, ap, ap₂, subst}
+use mathlib.Core.List.{List}
+use Prim.Native.Nat.{ℕ, suc, _+_, _-_, _*_, _≤_, _<_}
+use native.Mathlib.Omega.{arith}
+use native.Mathlib.Decide.{decLt}
+use native.Mathlib.Nat as N
+use lib.ListN.{length, getD}
+use Rattle.algebra.specs.Field.{Field}
+use Rattle.algebra.specs.Matrix.{identity}
+use Rattle.algebra.specs.Prime.{Prime}
+use Rattle.algebra.specs.Residue.{Zp}
+use Rattle.algebra.proofs.Cases.{case-le}
+use Rattle.algebra.proofs.PrimeField.{zp-field, field-zero}
+use Rattle.algebra.proofs.Series.{series, zero-at}
+use Rattle.lattice.specs.Row.{Row}
+use Rattle.lattice.specs.PolynomialMatrix.{AllBounded}
+use Rattle.lists.specs.Total.{total}
+use Rattle.lists.proofs.Last.{last-is}
+use Rattle.lists.proofs.Total.{total-le, total-lt, total-bound, total-one}
+use Rattle.poly.specs.Polynomial.{Coefficients}
+use Rattle.buffers.specs.Place.{place}
+use Rattle.buffers.specs.Held.{Held, matrixOf}
+use Rattle.buffers.specs.Diagonal.{Diagonal}
+use Rattle.buffers.proofs.Place.{by-rows}
+use Rattle.buffers.proofs.Held.{held-matrixOf, held-bounded}
+use Rattle.buffers.proofs.Diagonal.{held-identity}
+use Rattle.reduction.specs.Pivot.{value, values, height, Clash}
+use Rattle.reduction.specs.Pair.{Pair, NoPair, ordered-by, target, Reducing}
+use Rattle.reduction.specs.Step.{Carried, begin, advance}
+use Rattle.reduction.specs.Process.{halt, more}
+use Rattle.reduction.specs.Run.{advance-pair, Runs}
+use Rattle.reduction.proofs.Index.{height-pos, height-bound}
+use Rattle.reduction.proofs.Pair.{target-reducing}
+use Rattle.reduction.proofs.Lowering.{Lowered, value-le}
+use Rattle.reduction.proofs.Degrees.{Narrow, narrow-start}
+use Rattle.pivots.specs.Pivot.{valueOf, rowOf, Pivots}
+use Rattle.matrix.specs.Holding.{Holding}
+use Rattle.matrix.specs.Move.{Moved}
+use Rattle.matrix.specs.Reduced.{ReducedBy}
+use Rattle.matrix.proofs.Value.{value-held}
+use Rattle.matrix.proofs.Moving.{move-lowers, move-narrow, move-holding}
+
+-- the values of the rows that stand in a list
+abbrev pub valuesOf : ℕ → ℕ → List ℕ → ℕ → ℕ
+valuesOf m w r i = valueOf m w (rowOf m w r i)
+
+-- terms that are equal have equal sums
+total-same : (n : ℕ) (f g : ℕ → ℕ) → ((i : ℕ) → i < n → f i ≡ g i) → total n f ≡ total n g
+total-same n f g h = omega (arith, total-le n f g (λ i l. omega (arith, h i l)), total-le n g f (λ i l. omega (arith, h i l)))
+
+-- the bounds that hold for every list
+module _ (m w : ℕ) (r : List ℕ) where
+  pub values-most : (i : ℕ) → valuesOf m w r i ≤ w * m
+  unfolding valueOf
+  values-most i = last-is (w * m) _ .within
+
+  pub values-total : (n : ℕ) → total n (valuesOf m w r) ≤ n * (w * m)
+  values-total n = total-bound n (w * m) _ (λ i _. values-most i)
+
+  pub height-most : (i : ℕ) → height m (valuesOf m w r i) ≤ w
+  height-most i = height-bound m w _ (values-most i)
+
+-- values that agree on the n rows have the same pairs
+module _ (n m : ℕ) (v v′ : ℕ → ℕ) (e : (i : ℕ) → i < n → v i ≡ v′ i) where
+  clash-back : (i j : ℕ) → i < n → j < n → Clash m (v′ i) (v′ j) → Clash m (v i) (v j)
+  clash-back i j li lj c = rw (e i li, e j lj) c
+
+  no-pair-same : NoPair n m v → NoPair n m v′
+  no-pair-same h i j l lj c = h i j l lj (clash-back i j (omega arith) lj c)
+
+  pair-same : (q : Pair n m v) (x : ℕ × ℕ) → target m v (q .a) (q .b) ≡ x → (q′ : Pair n m v′) × (target m v′ (q′ .a) (q′ .b) ≡ x)
+  unfolding target
+  pair-same q x is =
+      let o = q .ordered in
+      let f = q .fits in
+      let la : q .a < n = omega arith in (
+        record {
+          a = q .a;
+          b = q .b;
+          ordered = o;
+          fits = f;
+          clash = rw (← e (q .a) la, ← e (q .b) f) (q .clash);
+          lowest-a = λ i j l lj s c. q .lowest-a i j l lj s (clash-back i j (omega arith) s c);
+          lowest-b = λ j l s c. q .lowest-b j l s (clash-back (q .a) j la (omega arith) c);
+        },
+        ap₂ (λ (y z : ℕ). ordered-by (decLt (height m z) (height m y)) (q .a) (q .b)) (sym (e (q .a) la)) (sym (e (q .b) f)) ∙ is,
+      )
+
+-- the rows l and k of a pair are such as a step reduces
+pub loop-reducing : {n m : ℕ} {v : ℕ → ℕ} {l k : ℕ} (q : Pair n m v) → target m v (q .a) (q .b) ≡ (l, k) → Reducing n m v l k
+loop-reducing {n} {m} {v} q e = subst (λ (x : ℕ × ℕ). Reducing n m v (x .0) (x .1)) e (target-reducing n m v q)
+
+-- what is true after `count` steps on the matrix in a: the buffers hold a state t within the bounds on the degrees,
+-- and the steps that lead on from t lead on from the beginning, `count` more of them
+pub record LoopAt (p : ℕ) (P : Prime p) (some : 0 < p) (n m w : ℕ) (a r u v : List ℕ) (count : ℕ) : Type 0 where
+  pub t : Carried (Zp p)
+  pub holding : Holding p n m w r u v t
+  pub narrow : Narrow (zp-field p P) n m w (matrixOf (by-rows n m w) p some a) t
+  pub onward : (c : ℕ) (s : Carried (Zp p)) → Runs (zp-field p P) n m w c t s
+      → Runs (zp-field p P) n m w (count + c) (begin (zp-field p P .ring) (matrixOf (by-rows n m w) p some a)) s
+
+-- what is asked of the matrix in a, at the start
+pub record Input (p n m w : ℕ) (a : List ℕ) : Type 0 where
+  pub columns : 0 < m
+  pub places : 0 < w
+  pub size : length a ≡ n * (m * w)
+  pub residues : Coefficients p a
+
+module _ {p n m w : ℕ} {a : List ℕ} (input : Input p n m w a) (P : Prime p) (some : 0 < p) where
+  abbrev K : Field (Zp p)
+  K = zp-field p P
+
+  abbrev A : ℕ → Row (Zp p)
+  A = matrixOf (by-rows n m w) p some a
+
+  first : Held (by-rows n m w) p a A
+  first = held-matrixOf (by-rows n m w) p some a (input .size) (input .residues)
+
+  bounded : AllBounded (K .ring) n m w A
+  bounded = held-bounded (by-rows n m w) p P first
+
+  -- the cells of U have places, if there are any
+  wide : {u : List ℕ} → Diagonal n (n * w) u → Held (by-rows n n (n * w)) p u (identity (series (K .ring)))
+  wide d = case-le 1 n
+      (λ rows. held-identity p P n (n * w) (N.mul-pos rows (input .places)) d)
+      (λ none. record { size = d .size; at = λ i j t li _ _. absurd (omega arith); beyond = λ i j t li _ _. absurd (omega arith) })
+
+  pub loop-start : {u v : List ℕ} → Diagonal n (n * w) u → Diagonal n w v → LoopAt p P some n m w a a u v 0
+  loop-start du dv = record {
+    t = begin (K .ring) A;
+    holding = record { R = first; U = wide du; V′ = held-identity p P n w (input .places) dv };
+    narrow = narrow-start K n m w A bounded (input .places);
+    onward = λ c s x. rw N.zero-add x;
+  }
+
+  module _ {r u v : List ℕ} {count : ℕ} (inv : LoopAt p P some n m w a r u v count) where
+    abbrev R : ℕ → Row (Zp p)
+    R = inv .t .R
+
+    agree : (i : ℕ) → i < n → valuesOf m w r i ≡ values K m w R i
+    agree i li = sym (value-held p P n m w (inv .holding .R) (input .columns) i li)
+
+    -- where no step applies, the reduction is made
+    pub loop-last : NoPair n m (valuesOf m w r) → ReducedBy p P some n m w count a r u v
+    loop-last h = record {
+      t = inv .t;
+      runs = rw N.add-zero at (inv .onward 0 (inv .t) (halt (no-pair-same n m _ _ agree h)));
+      holding = inv .holding;
+    }
+
+    module _ {indices degrees : List ℕ} (pivots : Pivots n m (valuesOf m w r) indices degrees) where
+      height-is : (i : ℕ) → i < n → getD degrees i 0 ≡ height m (value K m w (R i))
+      height-is i li = pivots .row i li .degree-is ∙ ap (height m) (agree i li)
+
+      -- a step
+      module _ (q : Pair n m (valuesOf m w r)) {l k : ℕ} (e : target m (valuesOf m w r) (q .a) (q .b) ≡ (l, k))
+          {r′ u′ v′ : List ℕ} (d : Moved p n m w l k r u v indices degrees r′ u′ v′) where
+        abbrev t′ : Carried (Zp p)
+        t′ = advance K m w l k (inv .t)
+
+        the-pair : (q′ : Pair n m (values K m w R)) × (target m (values K m w R) (q′ .a) (q′ .b) ≡ (l, k))
+        the-pair = pair-same n m _ _ agree q (l, k) e
+
+        reducing : Reducing n m (values K m w R) l k
+        reducing = loop-reducing (the-pair .0) (the-pair .1)
+
+        applied : advance-pair K n m w (inv .t) (the-pair .0) ≡ t′
+        unfolding advance-pair
+        applied = ap (λ (x : ℕ × ℕ). advance K m w (x .0) (x .1) (inv .t)) (the-pair .1)
+
+        holds : Holding p n m w r′ u′ v′ t′
+        holds = move-holding p P n m w (input .columns) A bounded (input .places) r u v indices degrees r′ u′ v′ (inv .t) (inv .holding) (inv .narrow) pivots l k reducing d
+
+        lowers : Lowered K n m w R l k
+        lowers = move-lowers p P n m w (input .columns) A bounded (input .places) r u v indices degrees r′ u′ v′ (inv .t) (inv .holding) (inv .narrow) pivots l k reducing d
+
+        pub loop-turn : LoopAt p P some n m w a r′ u′ v′ (count + 1)
+        loop-turn = record {
+          t = t′;
+          holding = holds;
+          narrow = move-narrow p P n m w (input .columns) A bounded (input .places) r u v indices degrees r′ u′ v′ (inv .t) (inv .holding) (inv .narrow) pivots l k reducing d;
+          onward = λ c s x. subst (λ (y : ℕ). Runs K n m w y (begin (K .ring) A) s) (shift c)
+              (inv .onward (suc c) s (more (the-pair .0) (rw applied x)));
+        }
+          where
+            shift : (c : ℕ) → count + suc c ≡ count + 1 + c
+            shift c = omega arith
+
+        -- the sum of the values falls
+        pub loop-falls : total n (valuesOf m w r′) < total n (valuesOf m w r)
+        loop-falls = total-lt n l _ _ (reducing .l-fits)
+            (omega (arith, new l (reducing .l-fits), agree l (reducing .l-fits), lowers .lower))
+            (λ i li. omega (arith, new i li, agree i li, value-le K n m w R l k lowers i))
+          where
+            new : (i : ℕ) → i < n → value K m w (t′ .R i) ≡ valuesOf m w r′ i
+            new i li = value-held p P n m w (holds .R) (input .columns) i li
+
+      -- where row k of the result is not zero, row k of U has no term from the height of row k on and what all heights have lost since a
+      pub u-short : (k spent : ℕ) → k < n → 0 < valuesOf m w r k
+          → spent + total n (λ i. getD degrees i 0) ≡ total n (λ i. height m (valuesOf m w a i))
+          → (j t : ℕ) → j < n → getD degrees k 0 + spent ≤ t → t < n * w → getD u (place n (n * w) k j t) 0 ≡ 0
+      u-short k spent lk nonzero lost j t lj from lt =
+          inv .holding .U .at k j t lk lj lt ∙ ap (λ (x : Zp p). x .val) zero ∙ field-zero p P
+        where
+          before : total n (λ i. height m (valuesOf m w a i)) ≡ total n (λ i. height m (value K m w (A i)))
+          before = total-same n _ _ (λ i li. ap (height m) (sym (value-held p P n m w first (input .columns) i li)))
+
+          now : total n (λ i. getD degrees i 0) ≡ total n (λ i. height m (value K m w (R i)))
+          now = total-same n _ _ height-is
+
+          zero : inv .t .U k j t ≡ K .ring .𝟘
+          zero = case-le 1 (height m (value K m w (A j)))
+              (λ positive. inv .narrow .bound k j lk lj positive t (omega (arith, before, now, height-is k lk)))
+              (λ none. ap (λ (f : ℕ → Zp p). f t) (inv .narrow .none k j lk lj (omega arith) (height-pos m _ (omega (arith, agree k lk)))) ∙ zero-at (K .ring) t)
+
+      -- column l of V has no term from w - D on, for the pivot degree D of row l of the result
+      pub v-short : (l : ℕ) → l < n
+          → (i t : ℕ) → i < n → w + 1 - getD degrees l 0 ≤ t → t < w → getD v (place n w i l t) 0 ≡ 0
+      v-short l ll i t li from lt =
+          inv .holding .V′ .at i l t li ll lt
+          ∙ ap (λ (x : Zp p). x .val) (inv .narrow .v-bound i l li ll t (omega (arith, height-is l ll)))
+          ∙ field-zero p P
+
+-- U has room for a row so shifted that it is as high as row l
+pub u-room : (n m w : ℕ) (a degrees : List ℕ) (l spent : ℕ) → l < n
+    → spent + total n (λ i. getD degrees i 0) ≡ total n (λ i. height m (valuesOf m w a i)) → getD degrees l 0 + spent ≤ n * w
+u-room n m w a degrees l spent ll lost =
+    omega (arith, total-one n l (λ i. getD degrees i 0) ll, total-bound n w _ (λ i _. height-most m w a i))

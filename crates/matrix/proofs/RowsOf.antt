@@ -1,0 +1,130 @@
+-- The rows of a matrix in a list, and their pivots before and after a step.
+use mathlib.Core.Path.{_≡_, refl, sym, ap, ap₂, subst, _∙_}
+use mathlib.Core.Logic.{_≢_}
+use mathlib.Core.List.{List}
+use Prim.Native.Nat.{ℕ, suc, _+_, _-_, _*_, _/_, _%_, _≤_, _<_}
+use native.Mathlib.Nat as N
+use native.Mathlib.Decide.{ℕ-discrete}
+use Rattle.algebra.proofs.Cases.{case-le}
+use native.Mathlib.Omega.{arith}
+use lib.ListN.{length, getD, set, length-set}
+use lib.Seq.{ext-getD, getD-set-same, getD-set-other}
+use Rattle.lists.proofs.Last.{last-is, last-unique}
+use Rattle.lists.proofs.Part.{length-part, getD-part}
+use Rattle.buffers.specs.Place.{place}
+use Rattle.buffers.specs.Added.{RowAdded}
+use Rattle.buffers.proofs.Place.{place-own, place-hit}
+use Rattle.rows.specs.Asked.{Short}
+use Rattle.reduction.specs.Pivot.{pivot, index, height}
+use Rattle.reduction.proofs.Index.{index-some, height-some, height-pos, height-bound}
+use Rattle.pivots.specs.Pivot.{valueOf, rowOf, IsPivotOf, Pivots}
+use Rattle.pivots.proofs.Grid.{line-end, within}
+use Rattle.pivots.proofs.Search.{past-height}
+use Rattle.matrix.specs.Move.{leadingAt}
+use Rattle.matrix.specs.Asked.{LeadingAsked, PivotAsked, Renewed}
+use Rattle.matrix.proofs.Loop.{valuesOf, values-most}
+
+module _ (n m w : ℕ) (columns : 0 < m) (r : List ℕ) (size : length r ≡ n * (m * w)) where
+  row-fits : (i : ℕ) → i < n → i * (m * w) + m * w ≤ length r
+  row-fits i li = omega (arith, line-end i n (m * w) li)
+
+  row-at : (i j t : ℕ) → i < n → j < m → t < w → getD (rowOf m w r i) (j * w + t) 0 ≡ getD r (place m w i j t) 0
+  row-at i j t li lj lt = getD-part (i * (m * w)) (m * w) r (row-fits i li) (j * w + t) (within j t m w lj lt)
+
+  -- from its height on a row is zero
+  pub row-short : (i : ℕ) → i < n → Short w (height m (valuesOf m w r i)) m (place m w i) r
+  row-short i li = record { zero = λ j t lj from to. sym (row-at i j t li lj to) ∙ past-height m w (rowOf m w r i) columns j t lj from to }
+
+  -- and what it is zero from on is no less than its height
+  pub height-under : (i top : ℕ) → i < n → Short w top m (place m w i) r → height m (valuesOf m w r i) ≤ top
+  unfolding valueOf
+  height-under i top li short = height-bound m top (valuesOf m w r i) (case-le (valuesOf m w r i) (top * m) (λ h. h) (λ more.
+      let v = valuesOf m w r i in
+      let last = last-is (w * m) (λ x. getD (rowOf m w r i) (x % m * w + x / m) 0) in
+      let column : (v - 1) % m < m = N.mod-lt (v - 1) columns in
+      let degree : (v - 1) / m < w = N.div-lt-iff-lt-mul columns .1 (omega (arith, last .within)) in
+      absurd (last .top (omega arith) (row-at i ((v - 1) % m) ((v - 1) / m) li column degree
+      ∙ short .zero ((v - 1) % m) ((v - 1) / m) column (N.le-div-iff-mul-le columns .1 (omega arith)) degree))))
+
+  -- the pivots that stand in two lists
+  module _ (indices degrees : List ℕ) (pivots : Pivots n m (valuesOf m w r) indices degrees) where
+    -- of a row that is not zero
+    module _ (i : ℕ) (li : i < n) (some : 0 < valuesOf m w r i) where
+      v : ℕ
+      v = valuesOf m w r i
+
+      column-is : getD indices i 0 ≡ suc (pivot m v .col)
+      unfolding v
+      column-is = pivots .row i li .index-is ∙ index-some m _ some
+
+      degree-is : getD degrees i 0 ≡ suc (pivot m v .deg)
+      unfolding v
+      degree-is = pivots .row i li .degree-is ∙ height-some m _ some
+
+      column-fits : pivot m v .col < m
+      column-fits = N.mod-lt _ columns
+
+      degree-fits : pivot m v .deg < w
+      unfolding v
+      degree-fits = N.div-lt-iff-lt-mul columns .1 (omega (arith, values-most m w r i))
+
+      pub leading-asked : LeadingAsked m w i (getD indices i 0) (getD degrees i 0) r
+      leading-asked = record {
+        row = row-fits i li;
+        column = omega (arith, column-is);
+        column-most = omega (arith, column-is, column-fits);
+        height = omega (arith, degree-is);
+        height-most = omega (arith, degree-is, degree-fits);
+      }
+
+      -- its leading coefficient is not 0
+      lead : leadingAt m w r indices degrees i ≢ 0
+      unfolding valueOf v
+      lead z =
+          let col : getD indices i 0 - 1 ≡ pivot m v .col = omega (arith, column-is) in
+          let deg : getD degrees i 0 - 1 ≡ pivot m v .deg = omega (arith, degree-is) in
+          last-is (w * m) (λ x. getD (rowOf m w r i) (x % m * w + x / m) 0) .top some
+          (row-at i (pivot m v .col) (pivot m v .deg) li column-fits degree-fits ∙ sym (ap₂ (λ (x y : ℕ). getD r (place m w i x y) 0) col deg) ∙ z)
+
+      pub pivot-asked : n ≤ length indices → n ≤ length degrees → PivotAsked m w i r indices degrees
+      pivot-asked x y = record { index-room = omega arith; degree-room = omega arith; leading = leading-asked; nonzero = N.pos-of-ne-zero lead }
+
+-- a place tells its row
+row-own : (s i l x y : ℕ) → x < s → y < s → i * s + x ≡ l * s + y → i ≡ l
+row-own s i l x y lx ly q = sym (quotient i x lx) ∙ ap (λ (z : ℕ). z / s) q ∙ quotient l y ly
+  where
+    quotient : (a b : ℕ) → b < s → (a * s + b) / s ≡ a
+    quotient a b lb = N.mul-add-div-right (omega arith) a b ∙ ap (λ (z : ℕ). a + z) (N.div-eq-of-lt lb) ∙ N.add-zero a
+
+-- a step changes row l alone, and of the pivots that of row l
+module _ (p n m w f e l k : ℕ) (r r′ : List ℕ) (size : length r ≡ n * (m * w)) (ll : l < n) (added : RowAdded p m w f e l k r r′) where
+  pub size-after : length r′ ≡ n * (m * w)
+  size-after = added .size ∙ size
+
+  other-row : (i : ℕ) → i < n → i ≢ l → rowOf m w r′ i ≡ rowOf m w r i
+  other-row i li ne =
+      let fits : i * (m * w) + m * w ≤ length r = omega (arith, line-end i n (m * w) li) in
+      let fits′ : i * (m * w) + m * w ≤ length r′ = omega (arith, added .size) in
+      ext-getD 0 _ _ (length-part (i * (m * w)) (m * w) r′ fits′ ∙ sym (length-part (i * (m * w)) (m * w) r fits)) (λ x lx.
+      let inside : x < m * w = omega (arith, length-part (i * (m * w)) (m * w) r′ fits′) in
+      getD-part (i * (m * w)) (m * w) r′ fits′ x inside
+      ∙ added .others (i * (m * w) + x) (λ j t lj lt same. ne (apart x inside j t lj lt same))
+      ∙ sym (getD-part (i * (m * w)) (m * w) r fits x inside))
+    where
+      -- a place of row i is none of row l
+      apart : (x : ℕ) → x < m * w → (j t : ℕ) → j < m → t < w → i * (m * w) + x ≡ place m w l j t → i ≡ l
+      apart x inside j t lj lt same = row-own (m * w) i l x (j * w + t) inside (within j t m w lj lt) same
+
+  pub pivots-after : (indices degrees indices′ degrees′ : List ℕ) → n ≤ length indices → n ≤ length degrees → Pivots n m (valuesOf m w r) indices degrees
+      → Renewed m w l r′ indices degrees indices′ degrees′ → Pivots n m (valuesOf m w r′) indices′ degrees′
+  pivots-after indices degrees indices′ degrees′ x y before new = record { row = λ i li. go i li (ℕ-discrete i l) }
+    where
+      go : (i : ℕ) → i < n → Dec (i ≡ l) → IsPivotOf m (valuesOf m w r′ i) (getD indices′ i 0) (getD degrees′ i 0)
+      go i li (yes q) = rw q (record {
+        index-is = ap (λ (t : List ℕ). getD t l 0) (new .indices-are) ∙ getD-set-same indices l _ 0 (omega arith);
+        degree-is = ap (λ (t : List ℕ). getD t l 0) (new .degrees-are) ∙ getD-set-same degrees l _ 0 (omega arith);
+      })
+      go i li (no ne) = record {
+        index-is = ap (λ (t : List ℕ). getD t i 0) (new .indices-are) ∙ getD-set-other indices l i _ 0 ne ∙ before .row i li .index-is ∙ ap (λ (t : List ℕ). index m (valueOf m w t)) (sym (other-row i li ne));
+        degree-is = ap (λ (t : List ℕ). getD t i 0) (new .degrees-are) ∙ getD-set-other degrees l i _ 0 ne ∙ before .row i li .degree-is ∙ ap (λ (t : List ℕ). height m (valueOf m w t)) (sym (other-row i li ne));
+      }

@@ -1,0 +1,49 @@
+-- The pivots of the rows of a buffer are those of the rows of the matrix that it holds.
+use mathlib.Core.Path.{_≡_, refl, sym, _∙_, ap, ap₂}
+use mathlib.Core.Logic.{_≢_}
+use mathlib.Core.List.{List}
+use Prim.Native.Nat.{ℕ, zero, suc, _+_, _-_, _*_, _/_, _%_, _≤_, _<_}
+use native.Mathlib.Omega.{arith}
+use native.Mathlib.Nat as N
+use lib.ListN.{length, getD}
+use Rattle.algebra.specs.Field.{Field}
+use Rattle.algebra.specs.Prime.{Prime}
+use Rattle.algebra.specs.Residue.{Zp}
+use Rattle.algebra.proofs.PrimeField.{zp-field, field-zero}
+use Rattle.algebra.proofs.Residue.{zp-path}
+use Rattle.lattice.specs.Row.{Row}
+use Rattle.lists.specs.Last.{lastNonzero}
+use Rattle.lists.proofs.Last.{last-nil, last-zero, last-here}
+use Rattle.lists.proofs.Part.{getD-part}
+use Rattle.buffers.specs.Held.{Held}
+use Rattle.buffers.proofs.Place.{by-rows}
+use Rattle.reduction.specs.Pivot.{top, value}
+use Rattle.pivots.specs.Pivot.{valueOf, rowOf}
+use Rattle.pivots.proofs.Grid.{line-end, within}
+
+module _ (p : ℕ) (P : Prime p) where
+  abbrev K : Field (Zp p)
+  K = zp-field p P
+
+  -- the last residue that is not zero is the last number that is not
+  top-last : (n : ℕ) (f : ℕ → Zp p) (g : ℕ → ℕ) → ((x : ℕ) → x < n → g x ≡ f x .val) → top K n f ≡ lastNonzero n g
+  unfolding top
+  top-last zero f g h = sym (last-nil g)
+  top-last (suc n) f g h = go (K .dec (f n) (K .ring .𝟘)) (top-last n f g (λ x l. h x (omega arith)))
+    where
+      less : suc n - 1 ≡ n
+      less = omega arith
+
+      go : (d : Dec (f n ≡ K .ring .𝟘)) → top K n f ≡ lastNonzero n g → (elim d as (λ _. ℕ) [ yes _ ↦ top K n f | no _ ↦ suc n ]) ≡ lastNonzero (suc n) g
+      go (yes z) rec = rec ∙ sym (last-zero (suc n) g (omega arith) (ap g less ∙ h n (omega arith) ∙ ap (λ (x : Zp p). x .val) z ∙ field-zero p P) ∙ ap (λ (y : ℕ). lastNonzero y g) less)
+      go (no ne) rec = sym (last-here (suc n) g (omega arith) (λ z. ne (zp-path _ _ (sym (h n (omega arith)) ∙ ap g (sym less) ∙ z ∙ sym (field-zero p P)))))
+
+  -- the value of a row
+  pub value-held : (n m w : ℕ) {l : List ℕ} {M : ℕ → Row (Zp p)} → Held (by-rows n m w) p l M → 0 < m → (i : ℕ) → i < n
+      → value K m w (M i) ≡ valueOf m w (rowOf m w l i)
+  unfolding value valueOf
+  value-held n m w {l} h columns i li = top-last (w * m) _ _ (λ x lx.
+      let column : x % m < m = N.mod-lt x columns in
+      let degree : x / m < w = N.div-lt-iff-lt-mul columns .1 lx in
+      getD-part (i * (m * w)) (m * w) l (omega (arith, h .size, line-end i n (m * w) li)) _ (within (x % m) (x / m) m w column degree)
+      ∙ h .at i (x % m) (x / m) li column degree)

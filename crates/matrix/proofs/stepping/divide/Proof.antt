@@ -1,0 +1,25 @@
+use native.Mathlib.Omega.{arith}
+use borrow.Author.Needs.{needs}
+use Prim.Native.Nat.{_<_}
+use native.Mathlib.Nat.{mod-lt}
+use Rattle.matrix.proofs.Quotient.{divided}
+use Rattle.matrix.proofs.stepping.divide.Statement.{statement}
+use Rattle.matrix.proofs.stepping.divide.Tie as tie
+
+inverse-requires : tie.Need-inverse-requires
+inverse-requires c κs = search needs
+
+product-requires : tie.Need-product-requires
+product-requires c κs = search needs
+
+difference-requires : tie.Need-difference-requires
+difference-requires c κs =
+    let start = c .before .before in
+    let some : 0 < start .args .md .p = omega (arith, start .pre .dividend) in
+    (start .pre .ready, record { left = some; right = rw (c .product .ensures) (mod-lt _ some) })
+
+returns : tie.Need-returns
+returns c = divided _ _ _ _ _ _ _ (c .before .before .before .pre .dividend) (c .before .before .inverse .ensures) (c .before .product .ensures) (c .difference .ensures)
+
+pub divide-spec : {M : Type 1} → statement M
+divide-spec = tie.close (tie.spec inverse-requires product-requires difference-requires returns)

@@ -1,0 +1,5 @@
+pub mod Holding
+pub mod Move
+pub mod Asked
+pub mod Reduced
+pub mod Running

@@ -1,0 +1,23 @@
+-- The result of the reduction.
+use mathlib.Core.List.{List}
+use Prim.Native.Nat.{ℕ, _<_}
+use Rattle.algebra.specs.Field.{Field}
+use Rattle.algebra.specs.Prime.{Prime}
+use Rattle.algebra.specs.Residue.{Zp}
+use Rattle.algebra.proofs.PrimeField.{zp-field}
+use Rattle.buffers.specs.Held.{matrixOf}
+use Rattle.buffers.proofs.Place.{by-rows}
+use Rattle.reduction.specs.Step.{Carried, begin}
+use Rattle.reduction.specs.Run.{Runs}
+use Rattle.matrix.specs.Holding.{Holding}
+
+-- "The whole reduction is this step repeated until none applies. Its count is the number of steps so defined":
+-- from the matrix in a, `count` steps lead to what stands in r, u and v, where no step applies
+pub record ReducedBy (p : ℕ) (P : Prime p) (some : 0 < p) (n m w count : ℕ) (a r u v : List ℕ) : Type 0 where
+  pub t : Carried (Zp p)
+  pub runs : Runs (zp-field p P) n m w count (begin (zp-field p P .ring) (matrixOf (by-rows n m w) p some a)) t
+  pub holding : Holding p n m w r u v t
+
+-- whatever proof of primality is in hand
+pub record Reduced (p n m w count : ℕ) (a r u v : List ℕ) : Type 0 where
+  pub by : (P : Prime p) (some : 0 < p) → ReducedBy p P some n m w count a r u v

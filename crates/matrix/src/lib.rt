@@ -1,0 +1,3 @@
+// Reduction of matrices of polynomials, on buffers that the caller lends.
+pub mod reducing;
+pub mod stepping;

@@ -1,0 +1,109 @@
+// One step on the buffers: what is taken from row l, and how R, U, V and the pivots follow.
+ghost use mathlib.Core.Path.{_≡_};
+ghost use Prim.Native.Nat.{_-_};
+ghost use lib.ListN.{getD};
+ghost use Rattle.buffers.specs.Place.{place};
+ghost use Rattle.matrix.specs.Asked.{LeadingAsked, DivideAsked, Divided, PlanAsked, RenewAsked, Renewed, AdvanceAsked, Advanced};
+ghost use Rattle.matrix.specs.Move.{Factor};
+use pivots::Pivot;
+use poly::Modulus;
+use poly::Residue;
+
+// c·x^e is taken from row l times row k; f is -c, so that the rows are only ever added to.
+pub struct Move {
+    pub e: usize,
+    pub c: Residue,
+    pub f: Residue,
+}
+
+// The leading coefficient of the pivot of row i, whose pivot index is x and whose degree is h - 1.
+fn leading(r: &[u16], i: usize, x: usize, h: usize, m: usize, w: usize) -> Residue
+    requires { ⌜ LeadingAsked m w i x h (now r) ⌝ }
+    ensures { λ c. ⌜ c .0 ≡ getD (now (r .entry)) (place m w i (x - 1) (h - 1)) 0 ⌝ }
+{
+    let s = m * w;
+    let j = x - 1;
+    let t = h - 1;
+    Residue(r[i * s + (j * w + t)])
+}
+
+// c is a divided by b.
+fn divide(a: Residue, b: Residue, e: usize, md: Modulus) -> Move
+    requires { ⌜ DivideAsked (md .p) (md .reciprocal) (a .0) (b .0) ⌝ }
+    ensures { λ x. ⌜ Divided (md .p) (a .0) (b .0) e (x .e) (x .c .0) (x .f .0) ⌝ }
+{
+    let c = a.product(b.inverse(md), md);
+    let f = Residue::ZERO.difference(c, md);
+    Move { e, c, f }
+}
+
+// What the step on rows l and k takes away.
+fn plan(
+    r: &[u16],
+    index: &[usize],
+    degree: &[usize],
+    l: usize,
+    k: usize,
+    m: usize,
+    w: usize,
+    md: Modulus,
+) -> Move
+    requires { ⌜ PlanAsked (md .p) (md .reciprocal) m w l k (now r) (now index) (now degree) ⌝ }
+    ensures { λ x. ⌜ Factor (md .p) m w l k (now (r .entry)) (now (index .entry)) (now (degree .entry)) (x .e) (x .c .0) (x .f .0) ⌝ }
+{
+    let high = degree[l];
+    let low = degree[k];
+    let a = leading(r, l, index[l], high, m, w);
+    let b = leading(r, k, index[k], low, m, w);
+    divide(a, b, high - low, md)
+}
+
+// The pivot of row l anew: it was of degree top - 1 at most.
+fn renew(
+    r: &[u16],
+    index: &mut [usize],
+    degree: &mut [usize],
+    l: usize,
+    top: usize,
+    m: usize,
+    w: usize,
+)
+    requires { ⌜ RenewAsked m w l top (now r) (now index) (now degree) ⌝ }
+    ensures { λ _. ⌜ Renewed m w l (now (r .entry)) (now (index .entry)) (now (degree .entry)) (now (index .exit)) (now (degree .exit)) ⌝ }
+{
+    let s = m * w;
+    let at = l * s;
+    let end = at + s;
+    let x = Pivot::of(&r[at..end], m, w, top);
+    index[l] = x.index.0;
+    degree[l] = x.degree.0;
+}
+
+// One step on rows l and k. The degrees tell which places of U and V can be other than zero: row k of U ends with the
+// height of row k and what all heights have lost since the start, column l of V with d less the degree of row l.
+pub fn advance(
+    r: &mut [u16],
+    u: &mut [u16],
+    v: &mut [u16],
+    spare: &mut [u16],
+    index: &mut [usize],
+    degree: &mut [usize],
+    l: usize,
+    k: usize,
+    spent: usize,
+    n: usize,
+    m: usize,
+    w: usize,
+    md: Modulus,
+)
+    requires { ⌜ AdvanceAsked (md .p) (md .reciprocal) n m w l k spent (now r) (now u) (now v) (now spare) (now index) (now degree) ⌝ }
+    ensures { λ _. ⌜ Advanced (md .p) n m w l k (now (r .entry)) (now (u .entry)) (now (v .entry)) (now (index .entry)) (now (degree .entry)) (now (r .exit)) (now (u .exit)) (now (v .exit)) (now (index .exit)) (now (degree .exit)) ⌝ }
+{
+    let x = plan(r, index, degree, l, k, m, w, md);
+    let high = degree[l];
+    let low = degree[k];
+    rows::add_row(r, spare, l, k, m, w, low, x.f, x.e, md);
+    rows::add_row_by_cells(u, spare, n, n * w, l, k, low + spent, x.f, x.e, md);
+    rows::add_column(v, spare, n, w, k, l, w + 1 - high, x.c, x.e, md);
+    renew(r, index, degree, l, high, m, w);
+}

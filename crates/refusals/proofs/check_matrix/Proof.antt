@@ -1,0 +1,57 @@
+use native.Mathlib.Omega.{arith}
+use borrow.Author.Needs.{needs}
+use mathlib.Core.Path.{subst}
+use Rattle.refusals.specs.Refused.{Numbers}
+use Rattle.refusals.specs.Part.{OfNumbers}
+use Rattle.refusals.proofs.Verdicts.{wrong-here, wrong-later, row-few, matrix-few}
+use Rattle.refusals.proofs.check_matrix.Statement.{statement}
+use Rattle.refusals.proofs.check_matrix.Tie as tie
+
+-- past the first test the numbers are in range
+numbers : (c : tie.After-enum-told) → let args = c .before .before .before .args in Numbers (args .p) (args .n) (args .m) (args .d)
+numbers c = subst (OfNumbers _ _ _ _) (c .enum-told .given .1) (c .before .before .check-numbers .ensures)
+
+check-numbers-requires : tie.Need-check-numbers-requires
+check-numbers-requires c κs = search needs
+
+enum-known-x : tie.Need-enum-known-x
+enum-known-x c = search needs
+
+returns : tie.Need-returns
+returns c = λ given wanted l. subst (OfNumbers _ _ _ _) (c .before .x .given .1) (c .before .before .before .check-numbers .ensures) _ _ _
+
+enum-told : tie.Need-enum-told
+enum-told c = search needs
+
+add-places : tie.Need-add-places
+add-places c = omega (arith, numbers c .degree)
+
+mul-places : tie.Need-mul-places
+mul-places c = omega (arith, row-few _ _ _ _ (numbers c))
+
+mul-places-2 : tie.Need-mul-places-2
+mul-places-2 c = omega (arith, matrix-few _ _ _ _ (numbers c))
+
+returns-2 : tie.Need-returns-2
+returns-2 c = λ given wanted l. (numbers (c .before), wrong-here _ _ _ _ (c .if1 .taken))
+
+returns-3 : tie.Need-returns-3
+returns-3 c = λ given wanted l. (numbers (c .before .before), wrong-later _ _ 1 _ _ (c .before .if1 .left) (wrong-here _ _ _ _ (c .if2 .taken)))
+
+returns-4 : tie.Need-returns-4
+returns-4 c = (numbers (c .before .before), c .before .if1 .left, c .if2 .left)
+
+pub check-matrix-spec : {M : Type 1} → statement M
+check-matrix-spec =
+    tie.close
+    (tie.spec
+    check-numbers-requires
+    enum-known-x
+    returns
+    enum-told
+    add-places
+    mul-places
+    mul-places-2
+    returns-2
+    returns-3
+    returns-4)

@@ -1,0 +1,62 @@
+use native.Mathlib.Omega.{arith}
+use borrow.Author.Needs.{needs}
+use borrow.Author.Tests.{not-true, not-false}
+use Rattle.algebra.proofs.Flag.{denied}
+use Prim.Native.Nat.{_≤_}
+use Rattle.poly.specs.Modulus.{Accepted}
+use Rattle.refusals.specs.Refused.{InShape}
+use Rattle.refusals.proofs.check_numbers.Statement.{statement}
+use Rattle.refusals.proofs.check_numbers.Tie as tie
+
+-- what is known past each test
+accepted : (c : tie.Else1) → Accepted (c .before .before .args .p)
+accepted c = c .before .accepts .ensures .0 (not-false _ (c .if1 .left))
+
+rows : (c : tie.Else2) → (1 ≤ c .before .before .before .before .args .n) × (c .before .before .before .before .args .n ≤ 8)
+rows c = c .before .one-to-eight .ensures .0 (not-false _ (c .if2 .left))
+
+columns : (c : tie.Else3) → let args = c .before .before .before .before .before .before .args in (1 ≤ args .m) × (args .m ≤ 8)
+columns c = c .before .one-to-eight2 .ensures .0 (not-false _ (c .if3 .left))
+
+shape : (c : tie.Else3) → let args = c .before .before .before .before .before .before .args in InShape (args .n) (args .m)
+shape c =
+    let n = rows (c .before .before) in
+    let m = columns c in
+    record { rows = n .0; rows-most = n .1; columns = m .0; columns-most = m .1 }
+
+accepts-requires : tie.Need-accepts-requires
+accepts-requires c κs = search needs
+
+returns : tie.Need-returns
+returns c = λ given wanted a. denied (c .before .accepts .ensures) (not-true _ (c .if1 .taken))
+
+one-to-eight-requires : tie.Need-one-to-eight-requires
+one-to-eight-requires c κs = search needs
+
+returns-2 : tie.Need-returns-2
+returns-2 c = λ given wanted a. (accepted (c .before .before), λ s. denied (c .before .one-to-eight .ensures) (not-true _ (c .if2 .taken)) (s .rows, s .rows-most))
+
+one-to-eight-requires-2 : tie.Need-one-to-eight-requires-2
+one-to-eight-requires-2 c κs = search needs
+
+returns-3 : tie.Need-returns-3
+returns-3 c = λ given wanted a. (accepted (c .before .before .before .before), λ s. denied (c .before .one-to-eight2 .ensures) (not-true _ (c .if3 .taken)) (s .columns, s .columns-most))
+
+returns-4 : tie.Need-returns-4
+returns-4 c = λ given wanted a. (accepted (c .before .before .before .before .before), shape (c .before), λ h. omega (arith, c .if4 .taken, h))
+
+returns-5 : tie.Need-returns-5
+returns-5 c = record { modulus = accepted (c .before .before .before .before .before); shape = shape (c .before); degree = c .if4 .left }
+
+pub check-numbers-spec : {M : Type 1} → statement M
+check-numbers-spec =
+    tie.close
+    (tie.spec
+    accepts-requires
+    returns
+    one-to-eight-requires
+    returns-2
+    one-to-eight-requires-2
+    returns-3
+    returns-4
+    returns-5)
