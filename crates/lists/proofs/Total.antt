@@ -21,6 +21,11 @@ total-more n (suc k) f h z = case-le (suc k) n
     (λ l. let e : suc k ≡ n = omega arith in ap (λ (m : ℕ). total m f) e)
     (λ l. omega (arith, total-more n k f (omega arith) (λ i a b. z i a (omega arith)), z k (omega arith) (omega arith)))
 
+pub total-same : (n : ℕ) (f g : ℕ → ℕ) → ((i : ℕ) → i < n → f i ≡ g i) → total n f ≡ total n g
+unfolding total
+total-same zero f g h = refl
+total-same (suc n) f g h = ap₂ _+_ (total-same n f g (λ i l. h i (omega arith))) (h n (omega arith))
+
 pub total-le : (n : ℕ) (f g : ℕ → ℕ) → ((i : ℕ) → i < n → f i ≤ g i) → total n f ≤ total n g
 unfolding total
 total-le zero f g h = omega arith

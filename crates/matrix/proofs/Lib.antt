@@ -5,3 +5,5 @@ pub mod Following
 pub mod Loop
 pub mod RowsOf
 pub mod Running
+pub mod NonzeroRows
+pub mod Service

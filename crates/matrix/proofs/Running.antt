@@ -9,7 +9,7 @@ use lib.ListN.{length, getD, set, length-set}
 use lib.Seq.{getD-set-same, getD-set-other}
 use Rattle.algebra.specs.Prime.{Prime}
 use Rattle.lists.specs.Total.{total}
-use Rattle.lists.proofs.Total.{total-le, total-change}
+use Rattle.lists.proofs.Total.{total-same, total-change}
 use Rattle.poly.specs.Polynomial.{Coefficients}
 use Rattle.buffers.specs.Place.{place}
 use Rattle.buffers.proofs.Place.{by-rows}
@@ -63,10 +63,7 @@ module _ (p reciprocal n m w : ℕ) (a u₀ v₀ spare₀ index₀ degree₀ : L
   running-start = record {
     lengths = record { r-same = refl; u-same = refl; v-same = refl; spare-same = refl; index-same = refl; degree-same = refl };
     pivots = asked .pivots;
-    lost =
-        let up = total-le n (λ i. getD degree₀ i 0) (λ i. height m (valuesOf m w a i)) (λ i l. omega (arith, asked .pivots .row i l .degree-is)) in
-        let down = total-le n (λ i. height m (valuesOf m w a i)) (λ i. getD degree₀ i 0) (λ i l. omega (arith, asked .pivots .row i l .degree-is)) in
-        omega arith;
+    lost = omega (arith, total-same n (λ i. getD degree₀ i 0) (λ i. height m (valuesOf m w a i)) (λ i l. asked .pivots .row i l .degree-is));
     at = λ P some. loop-start input P some (asked .u-one) (asked .v-one);
     budget = omega arith;
   }

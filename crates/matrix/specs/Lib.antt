@@ -3,3 +3,5 @@ pub mod Move
 pub mod Asked
 pub mod Reduced
 pub mod Running
+pub mod Listed
+pub mod Answer

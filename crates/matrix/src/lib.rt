@@ -1,3 +1,4 @@
 // Reduction of matrices of polynomials, on buffers that the caller lends.
+pub mod listing;
 pub mod reducing;
 pub mod stepping;

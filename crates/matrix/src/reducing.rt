@@ -1,8 +1,26 @@
 // The whole reduction.
-ghost use Rattle.matrix.specs.Running.{RunAsked, Ran};
+ghost use mathlib.Core.Path.{_≡_};
+ghost use Prim.Native.Nat.{_*_};
+ghost use lib.ListN.{length};
+ghost use Rattle.matrix.specs.Running.{StartAsked, RunAsked, Ran};
+ghost use Rattle.matrix.specs.Answer.{Answered, AnsweredDone};
+use crate::listing;
 use crate::stepping;
 use pivots::Next;
+use pivots::pivot;
 use poly::Modulus;
+use poly::polynomial;
+use refusals::Check;
+use refusals::Refusal;
+
+pub enum Answer {
+    NotDone(Refusal),
+    Done {
+        rank: usize,
+        count: u64,
+        rows: usize,
+    },
+}
 
 // Steps until none applies, and their number. The pivots of all rows are kept; a step finds those of its row l anew.
 fn run(
@@ -31,4 +49,66 @@ fn run(
         spent += before - degree[l];
         count += 1;
     }
+}
+
+fn eight() -> [usize; 8]
+    ensures { λ x. ⌜ length x ≡ 8 ⌝ }
+{
+    [0; 8]
+}
+
+// Room for a row of eight cells of 64 places, or for a cell of U.
+fn room() -> [u16; 512]
+    ensures { λ x. ⌜ length x ≡ 512 ⌝ }
+{
+    [0; 512]
+}
+
+// The reduction of the matrix in r, with room of its own.
+fn work(
+    r: &mut [u16],
+    u: &mut [u16],
+    v: &mut [u16],
+    n: usize,
+    m: usize,
+    w: usize,
+    md: Modulus,
+) -> Answer
+    requires { ⌜ StartAsked (md .p) (md .reciprocal) n m w (now r) (now u) (now v) ⌝ }
+    ensures { λ x. ⌜ AnsweredDone (md .p) n m w (now (r .entry)) (now (r .exit)) (now (u .exit)) (now (v .exit)) x ⌝ }
+{
+    let mut spare = room();
+    let mut index = eight();
+    let mut degree = eight();
+    pivot::all(r, &mut index, &mut degree, n, m, w);
+    let count = run(r, u, v, &mut spare, &mut index, &mut degree, n, m, w, md);
+    let x = listing::list(&index, n);
+    Answer::Done {
+        rank: x.rank,
+        count,
+        rows: x.rows,
+    }
+}
+
+// "U·A = R, V·R = A": the weak Popov form of the matrix in a, or a refusal that leaves every buffer as it was.
+pub fn reduce(
+    p: u32,
+    n: usize,
+    m: usize,
+    d: usize,
+    a: &[u16],
+    r: &mut [u16],
+    u: &mut [u16],
+    v: &mut [u16],
+) -> Answer
+    ensures { λ x. ⌜ Answered p n m d (now (a .entry)) (now (r .entry)) (now (u .entry)) (now (v .entry)) (now (r .exit)) (now (u .exit)) (now (v .exit)) x ⌝ }
+{
+    if let Check::Refused(x) = refusals::check_reduction(p, n, m, d, a, r.len(), u.len(), v.len()) {
+        return Answer::NotDone(x);
+    }
+    let w = d + 1;
+    polynomial::copy(a, r);
+    rows::write_identity(u, n, n * w);
+    rows::write_identity(v, n, w);
+    work(r, u, v, n, m, w, Modulus::of(p))
 }

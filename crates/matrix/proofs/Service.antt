@@ -1,0 +1,112 @@
+-- From the checks to the reduction, and from its end to the answer.
+use mathlib.Core.Path.{_≡_, refl, sym, ap, subst, _∙_}
+use mathlib.Core.List.{List}
+use Prim.Native.Nat.{ℕ, zero, suc, _+_, _*_, _^_, _<_}
+use native.Mathlib.Omega.{arith}
+use lib.ListN.{length, getD}
+use Rattle.algebra.specs.Prime.{Prime}
+use Rattle.lists.proofs.Total.{total-same}
+use Rattle.poly.specs.Modulus.{Ready}
+use Rattle.buffers.specs.Diagonal.{Diagonal}
+use Rattle.rows.specs.Asked.{Square}
+use Rattle.reduction.specs.Pivot.{index}
+use Rattle.reduction.specs.Rank.{sign}
+use Rattle.pivots.specs.Pivot.{Pivots}
+use Rattle.refusals.specs.Refused.{Verdict, reductionSizes}
+use Rattle.refusals.specs.declared.Check.the-variants.{Fine}
+use Rattle.refusals.proofs.Verdicts.{row-few, cell-few, matrix-few}
+use Rattle.matrix.specs.Listed.{IsListed}
+use Rattle.matrix.specs.Running.{StartAsked, RunAsked, Ran}
+use Rattle.matrix.specs.Answer.{lengths, IsDone, Answered, AnsweredDone}
+use Rattle.matrix.specs.declared.reducing.Answer.{Answer}
+use Rattle.matrix.specs.declared.reducing.Answer.the-variants.{NotDone, Done}
+use Rattle.matrix.proofs.Loop.{valuesOf}
+
+-- with the pivots and room for a row, for a cell of U and for eight numbers the loop can begin
+pub run-asked : {p reciprocal n m w : ℕ} {r u v spare indices degrees : List ℕ} → StartAsked p reciprocal n m w r u v
+    → length spare ≡ 512 → length indices ≡ 8 → length degrees ≡ 8 → Pivots n m (valuesOf m w r) indices degrees
+    → RunAsked p reciprocal n m w r u v spare indices degrees
+run-asked asked spare indices degrees pivots = record {
+  ready = asked .ready;
+  prime = asked .prime;
+  columns = asked .columns;
+  columns-most = asked .columns-most;
+  places = asked .places;
+  size = asked .size;
+  small = asked .small;
+  residues = asked .residues;
+  u-one = asked .u-one;
+  v-one = asked .v-one;
+  pivots = pivots;
+  index-room = omega (arith, asked .rows-most);
+  degree-room = omega (arith, asked .rows-most);
+  row-room = omega (arith, asked .row-few);
+  cell-room = omega (arith, asked .cell-few);
+}
+
+-- a pivot index is 0 where the row's value is
+sign-index : (m v : ℕ) → sign (index m v) ≡ sign v
+unfolding index
+sign-index m zero = refl
+sign-index m (suc v) = refl
+
+-- the rows of non-zero index are those that are not zero
+pub is-done : {p n m w count : ℕ} {a r u v indices : List ℕ} (rank rows : ℕ) → Ran p n m w count a r u v indices
+    → IsListed n (λ i. getD indices i 0) rank rows → IsDone p n m w a r u v rank count rows
+is-done {n = n} {m = m} {w = w} {r = r} {indices = indices} rank rows ran listed = record {
+  reduced = ran .reduced;
+  listed = record {
+    rank-is = listed .rank-is ∙ total-same n _ _ same;
+    rows-are = listed .rows-are ∙ total-same n _ _ (λ i l. ap (λ (s : ℕ). s * 2 ^ i) (same i l));
+  };
+}
+  where
+    same : (i : ℕ) → i < n → sign (getD indices i 0) ≡ sign (valuesOf m w r i)
+    same i l = ap sign (ran .indices-are i l) ∙ sign-index m (valuesOf m w r i)
+
+-- all checks have passed
+pub record Passed (p n m d : ℕ) (a r u v : List ℕ) : Type 0 where
+  pub verdict : Verdict p n m d (lengths a r u v) (reductionSizes n m d) a Fine
+
+module _ {p n m d : ℕ} {a r u v : List ℕ} (passed : Passed p n m d a r u v) where
+  fine : Verdict p n m d (lengths a r u v) (reductionSizes n m d) a Fine
+  fine = passed .verdict
+
+  sized : (k : ℕ) → getD (lengths a r u v) k 0 ≡ getD (reductionSizes n m d) k 0
+  sized k = ap (λ (l : List ℕ). getD l k 0) (fine .1)
+
+  pub copy-fits : length a ≡ length r
+  copy-fits = sized 0 ∙ sym (sized 1)
+
+  pub u-square : Square n (n * (d + 1)) u
+  u-square = record { some = some; size = sized 2 }
+    where
+      some : 0 < n * (d + 1)
+      some = omega (arith, fine .0 .shape .rows)
+
+  pub v-square : Square n (d + 1) v
+  v-square = record { some = omega arith; size = sized 3 }
+
+  pub start-asked : {q reciprocal : ℕ} {r′ u′ v′ : List ℕ} → q ≡ p → Ready q reciprocal → r′ ≡ a → Diagonal n (n * (d + 1)) u′ → Diagonal n (d + 1) v′
+      → StartAsked q reciprocal n m (d + 1) r′ u′ v′
+  start-asked q-is ready r-is u-one v-one = record {
+    ready = ready;
+    prime = subst Prime (sym q-is) (fine .0 .modulus .prime);
+    rows = omega (arith, fine .0 .shape .rows);
+    rows-most = fine .0 .shape .rows-most;
+    columns = omega (arith, fine .0 .shape .columns);
+    columns-most = fine .0 .shape .columns-most;
+    places = omega arith;
+    row-few = row-few p n m d (fine .0);
+    cell-few = cell-few p n m d (fine .0);
+    small = matrix-few p n m d (fine .0);
+    size = ap length r-is ∙ sized 0;
+    residues = rw q-is (rw r-is (fine .2));
+    u-one = u-one;
+    v-one = v-one;
+  }
+
+  pub answered : (q : ℕ) (b r′ u′ v′ : List ℕ) (x : Answer) → q ≡ p → b ≡ a → AnsweredDone q n m (d + 1) b r′ u′ v′ x → Answered p n m d a r u v r′ u′ v′ x
+  answered q b r′ u′ v′ (NotDone x) q-is b-is h = absurd h
+  answered q b r′ u′ v′ (Done rank count rows) q-is b-is h =
+      (fine, subst (λ (t : List ℕ). IsDone p n m (d + 1) t r′ u′ v′ rank count rows) b-is (subst (λ (t : ℕ). IsDone t n m (d + 1) b r′ u′ v′ rank count rows) q-is h))

@@ -1,0 +1,14 @@
+use borrow.Author.Needs.{needs}
+use native.Mathlib.Omega.{arith}
+use Rattle.matrix.proofs.NonzeroRows.{sign-some}
+use Rattle.matrix.proofs.listing.sign.Statement.{statement}
+use Rattle.matrix.proofs.listing.sign.Tie as tie
+
+returns : tie.Need-returns
+returns c = search needs
+
+returns-2 : tie.Need-returns-2
+returns-2 c = sign-some (c .if1 .left)
+
+pub sign-spec : {M : Type 1} → statement M
+sign-spec = tie.close (tie.spec returns returns-2)

@@ -1,0 +1,82 @@
+use native.Mathlib.Omega.{arith}
+use mathlib.Core.Path.{refl, subst}
+use denote.Ref.{now}
+use Rattle.poly.proofs.Asked.{in-range}
+use Rattle.refusals.specs.Refused.{Verdict}
+use Rattle.refusals.proofs.Verdicts.{cell-few}
+use Rattle.matrix.proofs.Service.{Passed, copy-fits, u-square, v-square, start-asked, answered}
+use borrow.Author.Needs.{needs}
+use Rattle.matrix.proofs.reducing.reduce.Statement.{statement}
+use Rattle.matrix.proofs.reducing.reduce.Tie as tie
+
+-- past the checks all is in order
+known : (c : tie.After-enum-told) → let args = c .before .before .before .before .before .before .before .args in
+    Passed (args .p) (args .n) (args .m) (args .d) (now (args .a)) (now (args .r)) (now (args .u)) (now (args .v))
+known c = record { verdict = subst (Verdict _ _ _ _ _ _ _) (c .enum-told .given .1) (c .before .before .check-reduction .ensures) }
+
+check-reduction-requires : tie.Need-check-reduction-requires
+check-reduction-requires c κs = search needs
+
+enum-known-x : tie.Need-enum-known-x
+enum-known-x c = search needs
+
+returns : tie.Need-returns
+returns c = (subst (Verdict _ _ _ _ _ _ _) (c .before .x .given .1) (c .before .before .before .check-reduction .ensures), refl, refl, refl)
+
+enum-told : tie.Need-enum-told
+enum-told c = search needs
+
+add-w : tie.Need-add-w
+add-w c = omega (arith, known c .verdict .0 .degree)
+
+copy-requires : tie.Need-copy-requires
+copy-requires c κs = copy-fits (known (c .before))
+
+mul-write-identity : tie.Need-mul-write-identity
+mul-write-identity c = omega (arith, cell-few _ _ _ _ (known (c .before .before .before .before .before) .verdict .0))
+
+write-identity-requires : tie.Need-write-identity-requires
+write-identity-requires c κs = u-square (known (c .before .before .before .before .before))
+
+write-identity-requires-2 : tie.Need-write-identity-requires-2
+write-identity-requires-2 c κs = v-square (known (c .before .before .before .before .before .before .before .before .before))
+
+of-requires : tie.Need-of-requires
+of-requires c κs = in-range (known (c .before .before .before .before .before .before .before .before .before .before .before .before .before .before .before) .verdict .0 .modulus)
+
+work-requires : tie.Need-work-requires
+work-requires c κs = start-asked (known (c .before .before .before .before .before .before .before .before .before .before .before .before .before .before .before .before)) (c .of .ensures .0) (c .of .ensures .1) (c .before .before .before .before .before .before .before .before .before .before .before .before .before .before .copy .ensures) (c .before .before .before .before .before .before .before .before .before .before .write-identity .ensures) (c .before .before .before .before .before .before .write-identity2 .ensures)
+
+same-length : tie.Need-same-length
+same-length c = search needs
+
+same-length-2 : tie.Need-same-length-2
+same-length-2 c = search needs
+
+same-length-3 : tie.Need-same-length-3
+same-length-3 c = search needs
+
+returns-2 : tie.Need-returns-2
+returns-2 c =
+    let made = c .before .before .before .before .before .before .before in
+    answered (known (made .before .before .before .before .before .before .before .before .before .before .before .before .before .before .before .before)) _ _ _ _ _ (c .before .before .before .before .before .before .work .result) (made .of .ensures .0) (made .before .before .before .before .before .before .before .before .before .before .before .before .before .before .copy .ensures) (c .before .before .before .before .before .before .work .ensures)
+
+pub reduce-spec : {M : Type 1} → statement M
+reduce-spec =
+    tie.close
+    (tie.spec
+    check-reduction-requires
+    enum-known-x
+    returns
+    enum-told
+    add-w
+    copy-requires
+    mul-write-identity
+    write-identity-requires
+    write-identity-requires-2
+    of-requires
+    work-requires
+    same-length
+    same-length-2
+    same-length-3
+    returns-2)

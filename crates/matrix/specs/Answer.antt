@@ -1,0 +1,56 @@
+-- The answer of the reduction, and what it promises.
+use mathlib.Core.Path.{_≡_}
+use mathlib.Core.List.{List, [], _∷_}
+use Prim.Native.Nat.{ℕ, _+_}
+use lib.ListN.{length}
+use Rattle.refusals.specs.Number as Refusal
+use Rattle.refusals.specs.Refused.{Verdict, reductionSizes}
+use Rattle.refusals.specs.declared.Check.the-variants.{Fine, Refused}
+use Rattle.pivots.specs.Pivot.{valueOf, rowOf}
+use Rattle.matrix.specs.Listed.{IsListed}
+use Rattle.matrix.specs.Reduced.{Reduced}
+use Rattle.matrix.specs.declared.reducing.Answer.{Answer}
+use Rattle.matrix.specs.declared.reducing.Answer.the-variants.{NotDone, Done}
+
+-- the numbers of an answer: "Rank and counts in a refusal are 0, the row list is empty"
+abbrev pub numberOf : Answer → ℕ
+numberOf (NotDone x) = Refusal.numberOf x
+numberOf (Done rank count rows) = 0
+
+abbrev pub placeOf : Answer → ℕ
+placeOf (NotDone x) = Refusal.placeOf x
+placeOf (Done rank count rows) = 0
+
+abbrev pub rankOf : Answer → ℕ
+rankOf (NotDone x) = 0
+rankOf (Done rank count rows) = rank
+
+abbrev pub countOf : Answer → ℕ
+countOf (NotDone x) = 0
+countOf (Done rank count rows) = count
+
+abbrev pub rowsOf : Answer → ℕ
+rowsOf (NotDone x) = 0
+rowsOf (Done rank count rows) = rows
+
+-- the lengths of input, result, U and V
+abbrev pub lengths : (a r u v : List ℕ) → List ℕ
+lengths a r u v = length a ∷ length r ∷ length u ∷ length v ∷ []
+
+-- the matrix in a is reduced: R, U and V stand in the buffers, and the answer has the count, the rank and the rows
+pub record IsDone (p n m w : ℕ) (a r u v : List ℕ) (rank count rows : ℕ) : Type 0 where
+  pub reduced : Reduced p n m w count a r u v
+  pub listed : IsListed n (λ i. valueOf m w (rowOf m w r i)) rank rows
+
+-- the call is refused for the first check that applies, "and every buffer holds what it held at entry"; or all are in
+-- order and it is done
+abbrev pub Answered : (p n m d : ℕ) (a r u v r′ u′ v′ : List ℕ) → Answer → Type 0
+Answered p n m d a r u v r′ u′ v′ (NotDone x) =
+    Verdict p n m d (lengths a r u v) (reductionSizes n m d) a (Refused x) × (r′ ≡ r) × (u′ ≡ u) × (v′ ≡ v)
+Answered p n m d a r u v r′ u′ v′ (Done rank count rows) =
+    Verdict p n m d (lengths a r u v) (reductionSizes n m d) a Fine × IsDone p n m (d + 1) a r′ u′ v′ rank count rows
+
+-- the same of a call that is not refused
+abbrev pub AnsweredDone : (p n m w : ℕ) (a r u v : List ℕ) → Answer → Type 0
+AnsweredDone p n m w a r u v (NotDone x) = ⊥
+AnsweredDone p n m w a r u v (Done rank count rows) = IsDone p n m w a r u v rank count rows
