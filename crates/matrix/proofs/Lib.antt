@@ -7,3 +7,5 @@ pub mod RowsOf
 pub mod Running
 pub mod NonzeroRows
 pub mod Service
+pub mod Facts
+pub mod Unique

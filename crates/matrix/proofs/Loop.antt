@@ -17,7 +17,7 @@ use Rattle.lattice.specs.Row.{Row}
 use Rattle.lattice.specs.PolynomialMatrix.{AllBounded}
 use Rattle.lists.specs.Total.{total}
 use Rattle.lists.proofs.Last.{last-is}
-use Rattle.lists.proofs.Total.{total-le, total-lt, total-bound, total-one}
+use Rattle.lists.proofs.Total.{total-same, total-le, total-lt, total-bound, total-one}
 use Rattle.poly.specs.Polynomial.{Coefficients}
 use Rattle.buffers.specs.Place.{place}
 use Rattle.buffers.specs.Held.{Held, matrixOf}
@@ -44,10 +44,6 @@ use Rattle.matrix.proofs.Moving.{move-lowers, move-narrow, move-holding
 -- the values of the rows that stand in a list
 abbrev pub valuesOf : ℕ → ℕ → List ℕ → ℕ → ℕ
 valuesOf m w r i = valueOf m w (rowOf m w r i)
-
--- terms that are equal have equal sums
-total-same : (n : ℕ) (f g : ℕ → ℕ) → ((i : ℕ) → i < n → f i ≡ g i) → total n f ≡ total n g
-total-same n f g h = omega (arith, total-le n f g (λ i l. omega (arith, h i l)), total-le n g f (λ i l. omega (arith, h i l)))
 
 -- the bounds that hold for every list
 module _ (m w : ℕ) (r : List ℕ) where

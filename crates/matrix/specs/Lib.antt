@@ -5,3 +5,4 @@ pub mod Reduced
 pub mod Running
 pub mod Listed
 pub mod Answer
+pub mod Facts

@@ -1,0 +1,56 @@
+-- From the promise of `reduce` to the facts that are proved of the reduction.
+use mathlib.Core.Path.{_≡_, sym, ap, _∙_}
+use mathlib.Core.List.{List}
+use Prim.Native.Nat.{ℕ, _+_, _*_, _^_, _<_}
+use native.Mathlib.Omega.{arith}
+use lib.ListN.{length, getD}
+use Rattle.algebra.specs.Prime.{Prime}
+use Rattle.algebra.proofs.PrimeField.{zp-field}
+use Rattle.lists.proofs.Total.{total-same}
+use Rattle.poly.specs.Polynomial.{Coefficients}
+use Rattle.buffers.specs.Held.{matrixOf}
+use Rattle.buffers.proofs.Place.{by-rows}
+use Rattle.buffers.proofs.Held.{held-matrixOf, held-bounded}
+use Rattle.reduction.specs.Pivot.{values}
+use Rattle.reduction.specs.Rank.{sign}
+use Rattle.reduction.proofs.Facts.{reduction-facts}
+use Rattle.matrix.specs.Reduced.{ReducedBy}
+use Rattle.matrix.specs.Answer.{IsDone, Answered}
+use Rattle.matrix.specs.Facts.{DoneFacts}
+use Rattle.matrix.specs.declared.reducing.Answer.the-variants.{Done}
+use Rattle.matrix.proofs.Loop.{valuesOf}
+use Rattle.matrix.proofs.Value.{value-held}
+
+-- of a matrix that is reduced
+pub done-facts : (p : ℕ) (P : Prime p) (some : 0 < p) (n m w : ℕ) (a r u v : List ℕ) (rank count rows : ℕ)
+    → 0 < m → 0 < w → length a ≡ n * (m * w) → Coefficients p a
+    → IsDone p n m w a r u v rank count rows → DoneFacts p P some n m w a r u v rank count rows
+done-facts p P some n m w a r u v rank count rows columns places size residues done = record {
+  t = end .t;
+  holding = end .holding;
+  facts = reduction-facts (zp-field p P) n m w (matrixOf (by-rows n m w) p some a) columns places
+      (held-bounded (by-rows n m w) p P (held-matrixOf (by-rows n m w) p some a size residues)) count (end .t) (end .runs);
+  rank-is = done .listed .rank-is ∙ total-same n _ _ same;
+  rows-are = done .listed .rows-are ∙ total-same n _ _ (λ i l. ap (λ (s : ℕ). s * 2 ^ i) (same i l));
+}
+  where
+    end : ReducedBy p P some n m w count a r u v
+    end = done .reduced .by P some
+
+    -- a row of the buffer is zero where the row of R is
+    same : (i : ℕ) → i < n → sign (valuesOf m w r i) ≡ sign (values (zp-field p P) m w (end .t .R) i)
+    same i l = ap sign (sym (value-held p P n m w (end .holding .R) columns i l))
+
+-- of every call that is not refused: p is prime then, and the facts hold over Z/p
+pub answered-facts : (p n m d : ℕ) (a r u v r′ u′ v′ : List ℕ) (rank count rows : ℕ)
+    → Answered p n m d a r u v r′ u′ v′ (Done rank count rows)
+    → (P : Prime p) × (some : 0 < p) × DoneFacts p P some n m (d + 1) a r′ u′ v′ rank count rows
+answered-facts p n m d a r u v r′ u′ v′ rank count rows (fine, done) = (
+  fine .0 .modulus .prime,
+  some,
+  done-facts p (fine .0 .modulus .prime) some n m (d + 1) a r′ u′ v′ rank count rows
+      (omega (arith, fine .0 .shape .columns)) (omega arith) (ap (λ (l : List ℕ). getD l 0 0) (fine .1)) (fine .2) done,
+)
+  where
+    some : 0 < p
+    some = omega (arith, fine .0 .modulus .prime .two)

@@ -1,0 +1,65 @@
+// The services for programs in C: each forwards to the matrix crate and tells the answer by its numbers.
+ghost use Rattle.matrix.specs.declared.reducing.Answer.the-variants.{NotDone};
+ghost use Rattle.moorbesen.specs.Reply.{Refusing, Tells, Replied};
+use matrix::reducing;
+use matrix::reducing::Answer;
+use refusals::Refusal;
+
+// In `rows`, bit i - 1 stands for row i.
+#[repr(C)]
+pub struct Reply {
+    pub number: usize,
+    pub place: usize,
+    pub rank: usize,
+    pub count: u64,
+    pub rows: usize,
+}
+
+fn refusal(number: usize, place: usize) -> Reply
+    ensures { λ x. ⌜ Refusing number place (x .number) (x .place) (x .rank) (x .count) (x .rows) ⌝ }
+{
+    Reply {
+        number,
+        place,
+        rank: 0,
+        count: 0,
+        rows: 0,
+    }
+}
+
+fn refused(x: Refusal) -> Reply
+    ensures { λ y. ⌜ Tells (NotDone x) (y .number) (y .place) (y .rank) (y .count) (y .rows) ⌝ }
+{
+    match x {
+        Refusal::Modulus => refusal(1, 0),
+        Refusal::Shape => refusal(2, 0),
+        Refusal::Degree => refusal(3, 0),
+        Refusal::Length(k) => refusal(5, k),
+        Refusal::Coefficient(i) => refusal(6, i),
+    }
+}
+
+#[no_mangle]
+pub extern "C" fn moorbesen_reduce(
+    p: u32,
+    n: usize,
+    m: usize,
+    d: usize,
+    a: &[u16],
+    r: &mut [u16],
+    u: &mut [u16],
+    v: &mut [u16],
+) -> Reply
+    ensures { λ x. ⌜ Replied p n m d (now (a .entry)) (now (r .entry)) (now (u .entry)) (now (v .entry)) (now (r .exit)) (now (u .exit)) (now (v .exit)) (x .number) (x .place) (x .rank) (x .count) (x .rows) ⌝ }
+{
+    match reducing::reduce(p, n, m, d, a, r, u, v) {
+        Answer::NotDone(x) => refused(x),
+        Answer::Done { rank, count, rows } => Reply {
+            number: 0,
+            place: 0,
+            rank,
+            count,
+            rows,
+        },
+    }
+}

@@ -1,0 +1,230 @@
+//! The examples of the paper, W1 to W12, and the matrix of the report's
+//! Figure 1.
+
+use second::check;
+use second::det;
+use second::matrix::Matrix;
+use second::popov::{self, Popov};
+use second::reduce::{self, Reduction};
+use second::refuse::{self, Refusal, Service, SERVICES};
+
+/// A matrix from its rows, each cell a list of coefficients, constant term
+/// first.
+fn matrix(rows: &[&[&[u16]]]) -> Matrix {
+    let cells = rows
+        .iter()
+        .flat_map(|row| row.iter())
+        .map(|cell| second::poly::from_places(cell))
+        .collect();
+    Matrix::from_cells(rows.len(), rows[0].len(), cells)
+}
+
+fn reduction(p: u64, d: usize, a: &Matrix) -> Reduction {
+    let done = reduce::reduce(p, a);
+    assert!(check::check_reduction(p, d, a, &done).is_empty());
+    assert!(check::check_single_steps(p, a, &done).is_empty());
+    done
+}
+
+fn popov_form(p: u64, d: usize, a: &Matrix) -> Popov {
+    let done = popov::popov_form(p, a);
+    assert!(check::check_popov(p, d, a, &done).is_empty());
+    done
+}
+
+/// The refusal of a call whose buffers are as the table says, where it says
+/// anything.
+fn refusal(service: Service, p: u32, n: u32, m: u32, d: u32) -> Option<Refusal> {
+    let inside = n <= 8 && m <= 8 && d <= 63;
+    let (n_, m_, d_) = if inside { (n, m, d) } else { (1, 1, 0) };
+    let mut lengths = refuse::places(service, n_ as usize, m_ as usize, d_ as usize);
+    let input = vec![0; lengths.remove(0)];
+    refuse::refusal(service, p, n, m, d, &input, &lengths)
+}
+
+fn number(number: u32, place: u64) -> Option<Refusal> {
+    Some(Refusal { number, place })
+}
+
+#[test]
+fn w1() {
+    let places = [1, 0, 0, 0, 1, 0, 0, 1, 0, 1, 0, 1];
+    let a = Matrix::from_places(2, 2, 3, &places);
+    let done = reduction(7, 2, &a);
+    assert_eq!(done.r, Matrix::identity(2));
+    assert_eq!(done.rank, 2);
+    assert_eq!(done.count, 2);
+    assert_eq!(done.row_list, [1, 2]);
+    assert_eq!(done.u, matrix(&[&[&[1, 0, 1], &[0, 6]], &[&[0, 6], &[1]]]));
+    assert_eq!(done.v, a);
+    assert_eq!(det::determinant_places(7, 2, &a), [1, 0, 0, 0, 0]);
+    // The buffers, every place of them.
+    assert_eq!(done.r.to_places(3), [1, 0, 0, 0, 0, 0, 0, 0, 0, 1, 0, 0]);
+    assert_eq!(
+        done.u.to_places(6),
+        [1, 0, 1, 0, 0, 0, 0, 6, 0, 0, 0, 0, 0, 6, 0, 0, 0, 0, 1, 0, 0, 0, 0, 0]
+    );
+    assert_eq!(done.v.to_places(3), places);
+}
+
+#[test]
+fn w2() {
+    let a = matrix(&[&[&[0, 1], &[1]], &[&[0, 0, 1], &[0, 1]]]);
+    let done = reduction(5, 2, &a);
+    assert_eq!(done.r, matrix(&[&[&[0, 1], &[1]], &[&[], &[]]]));
+    assert_eq!(done.rank, 1);
+    assert_eq!(done.count, 1);
+    assert_eq!(done.row_list, [1]);
+    assert_eq!(det::determinant_places(5, 2, &a), [0; 5]);
+}
+
+#[test]
+fn w3() {
+    let a = matrix(&[&[&[2], &[]], &[&[0, 3], &[0, 0, 1]]]);
+    let done = popov_form(7, 2, &a);
+    assert_eq!(done.first_count, 0);
+    assert_eq!(done.second_count, 1);
+    assert_eq!(done.p, matrix(&[&[&[1], &[]], &[&[], &[0, 0, 1]]]));
+}
+
+#[test]
+fn w4() {
+    let a = matrix(&[&[&[], &[1]], &[&[1], &[1]]]);
+    let done = reduction(2, 0, &a);
+    assert_eq!(done.r, matrix(&[&[&[], &[1]], &[&[1], &[]]]));
+    assert_eq!(done.count, 1);
+    assert_eq!(popov_form(2, 0, &a).p, Matrix::identity(2));
+}
+
+#[test]
+fn w5() {
+    for p in [2, 3, 7, 929, 65_521] {
+        let a = Matrix::zero(1, 1);
+        let done = reduction(p, 0, &a);
+        assert_eq!(done.rank, 0);
+        assert_eq!(done.count, 0);
+        assert!(done.row_list.is_empty());
+        assert_eq!(done.u, Matrix::identity(1));
+        assert_eq!(done.v, Matrix::identity(1));
+        assert_eq!(det::determinant_places(p, 0, &a), [0]);
+        assert_eq!(popov_form(p, 0, &a).second_count, 0);
+    }
+}
+
+#[test]
+fn w6() {
+    let a = matrix(&[&[&[0, 1]], &[&[0, 1]]]);
+    let done = reduction(3, 1, &a);
+    assert_eq!(done.r, matrix(&[&[&[0, 1]], &[&[]]]));
+    assert_eq!(done.u, matrix(&[&[&[1], &[]], &[&[2], &[1]]]));
+    assert_eq!(done.v, matrix(&[&[&[1], &[]], &[&[1], &[1]]]));
+}
+
+#[test]
+fn w7() {
+    let a = matrix(&[&[&[0, 1], &[0, 1]]]);
+    assert_eq!(reduce::pivot(&a, 0).index, 2);
+    assert_eq!(reduce::pivot(&a, 0).degree, 1);
+}
+
+#[test]
+fn w8() {
+    let a = matrix(&[&[&[0, 1], &[2]], &[&[3], &[0, 1]]]);
+    assert_eq!(det::determinant_places(5, 1, &a), [4, 0, 1]);
+}
+
+#[test]
+fn w9() {
+    for service in SERVICES {
+        assert_eq!(refusal(service, 9, 1, 1, 0), number(1, 0));
+        assert_eq!(refusal(service, 1, 1, 1, 0), number(1, 0));
+        assert_eq!(refusal(service, 65_537, 1, 1, 0), number(1, 0));
+        assert_eq!(refusal(service, 65_521, 1, 1, 0), None);
+    }
+}
+
+#[test]
+fn w10() {
+    for service in SERVICES {
+        assert_eq!(refusal(service, 7, 9, 8, 0), number(2, 0));
+        assert_eq!(refusal(service, 7, 8, 9, 0), number(2, 0));
+        assert_eq!(refusal(service, 7, 8, 8, 0), None);
+    }
+}
+
+#[test]
+fn w11() {
+    for service in SERVICES {
+        assert_eq!(refusal(service, 7, 1, 1, 64), number(3, 0));
+        assert_eq!(refusal(service, 7, 1, 1, 63), None);
+    }
+}
+
+#[test]
+fn w12() {
+    for service in SERVICES {
+        let mut lengths = refuse::places(service, 2, 2, 1);
+        let mut input = vec![6; lengths.remove(0)];
+        let refusal = |input: &[u16]| refuse::refusal(service, 7, 2, 2, 1, input, &lengths);
+        assert_eq!(refusal(&input), None);
+        input[3] = 7;
+        input[5] = 7;
+        assert_eq!(refusal(&input), number(6, 3));
+    }
+}
+
+#[test]
+fn number_4_is_of_the_determinant_alone() {
+    assert_eq!(refusal(Service::Determinant, 7, 2, 3, 1), number(4, 0));
+    assert_eq!(refusal(Service::Reduction, 7, 2, 3, 1), None);
+    assert_eq!(refusal(Service::SingleStep, 7, 2, 3, 1), None);
+    assert_eq!(refusal(Service::PopovForm, 7, 2, 3, 1), None);
+}
+
+#[test]
+fn report_figure_1() {
+    let a = matrix(&[
+        &[&[5, 3, 4], &[4, 3, 4], &[1, 0, 6]],
+        &[&[6, 3], &[5, 3], &[3, 1]],
+        &[&[2, 4, 6], &[0, 0, 6], &[0, 1, 2]],
+    ]);
+    let printed = matrix(&[
+        &[&[1], &[3, 6], &[6]],
+        &[&[], &[], &[]],
+        &[&[2], &[5], &[3]],
+    ]);
+    let done = reduction(7, 2, &a);
+    assert_eq!(done.rank, 2);
+    assert!(det::determinant(7, &a).is_empty());
+    assert!(check::is_weak_popov(&printed));
+    // The weak form is not unique; the Popov form is.
+    assert_eq!(popov_form(7, 2, &a).p, popov_form(7, 2, &printed).p);
+}
+
+#[test]
+fn report_example_1() {
+    // The simple transformation of the first row on the second, over Z/7.
+    let m = matrix(&[
+        &[&[1], &[0, 0, 1], &[0, 1]],
+        &[&[0, 3], &[0, 1, 0, 2], &[0, 0, 0, 1]],
+    ]);
+    let mut n = m.clone();
+    n.subtract_row_multiple(7, 1, 2, 1, 0);
+    assert_eq!(reduce::pivot(&m, 0).index, 2);
+    assert_eq!(
+        n.chosen_rows(&[1]),
+        matrix(&[&[&[0, 1], &[0, 1], &[0, 0, 5, 1]]])
+    );
+}
+
+#[test]
+fn printed_errors_that_look_right() {
+    // A constant row is not matched with a zero row.
+    let a = matrix(&[&[&[], &[]], &[&[3], &[]]]);
+    assert_eq!(reduction(7, 0, &a).count, 0);
+    // The row of greater degree changes, wherever it stands.
+    let a = matrix(&[&[&[0, 0, 1]], &[&[1]]]);
+    let done = reduction(7, 2, &a);
+    assert_eq!(done.r, matrix(&[&[&[]], &[&[1]]]));
+    assert_eq!(done.row_list, [2]);
+}
