@@ -34,6 +34,17 @@ extern "C" {
         v: *mut u16,
         v_len: usize,
     ) -> Reply;
+
+    fn moorbesen_step(
+        p: u32,
+        n: usize,
+        m: usize,
+        d: usize,
+        a: *const u16,
+        a_len: usize,
+        r: *mut u16,
+        r_len: usize,
+    ) -> Reply;
 }
 
 /// What a buffer holds before a call. No coefficient is as large, so a place
@@ -88,7 +99,7 @@ struct Wanted {
     buffers: Option<Vec<Vec<u16>>>,
 }
 
-/// A call of a service with its shape and its input.
+/// A call of one of the two services with its shape and its input.
 struct Arguments<'a> {
     service: Service,
     p: u32,
@@ -142,6 +153,19 @@ fn wanted(call: &Arguments) -> Wanted {
                 ]),
             }
         }
+        Service::SingleStep => {
+            let (r, count) = reduce::single_step(p, &a);
+            Wanted {
+                reply: Reply {
+                    number: 0,
+                    place: 0,
+                    rank: 0,
+                    count,
+                    rows: 0,
+                },
+                buffers: Some(vec![r.to_places(w)]),
+            }
+        }
         _ => panic!("no C function for this service"),
     }
 }
@@ -172,6 +196,22 @@ fn differences(call: &Arguments) -> Vec<String> {
                     u_len,
                     v.pointer(),
                     v_len,
+                )
+            }
+        }
+        (Service::SingleStep, [r]) => {
+            let r_len = r.length();
+            // As above.
+            unsafe {
+                moorbesen_step(
+                    p,
+                    n as usize,
+                    m as usize,
+                    d as usize,
+                    a,
+                    a_len,
+                    r.pointer(),
+                    r_len,
                 )
             }
         }
@@ -254,7 +294,9 @@ fn matrix_agrees(label: &str, service: Service, p: u64, d: usize, a: &Matrix) ->
 }
 
 /// Compares all refusal inputs and then samples 0 to count - 1 of the seed.
-/// Returns how many agree and how many do not.
+/// Returns how many agree and how many do not. For the single step each sample
+/// is compared at three matrices of its reduction: the first, one on the way,
+/// and the last, where the form is reached.
 pub fn compare(service: Service, count: u64, seed: u64) -> (u64, u64) {
     let mut passed = 0;
     let mut failed = 0;
@@ -283,7 +325,20 @@ pub fn compare(service: Service, count: u64, seed: u64) -> (u64, u64) {
     for number in 0..count {
         let Sample { kind, p, d, a } = sample::sample(seed, number);
         let label = format!("sample {number} of seed {seed}, {kind:?}");
-        add(matrix_agrees(&label, service, p, d, &a));
+        let mut good = matrix_agrees(&label, service, p, d, &a);
+        if service == Service::SingleStep {
+            let done = reduce::reduce(p, &a);
+            let some = number % (done.count + 1);
+            let mut matrix = a;
+            for _ in 0..some {
+                matrix = reduce::single_step(p, &matrix).0;
+            }
+            let on_the_way = format!("{label}, after {some} steps");
+            good &= matrix_agrees(&on_the_way, service, p, d, &matrix);
+            let at_the_end = format!("{label}, after {} steps", done.count);
+            good &= matrix_agrees(&at_the_end, service, p, d, &done.r);
+        }
+        add(good);
     }
     (passed, failed)
 }

@@ -9,3 +9,5 @@ pub mod NonzeroRows
 pub mod Service
 pub mod Facts
 pub mod Unique
+pub mod SingleService
+pub mod SingleStep

@@ -62,10 +62,10 @@ module _ (n m : ℕ) (v v′ : ℕ → ℕ) (e : (i : ℕ) → i < n → v i ≡
   clash-back : (i j : ℕ) → i < n → j < n → Clash m (v′ i) (v′ j) → Clash m (v i) (v j)
   clash-back i j li lj c = rw (e i li, e j lj) c
 
-  no-pair-same : NoPair n m v → NoPair n m v′
+  pub no-pair-same : NoPair n m v → NoPair n m v′
   no-pair-same h i j l lj c = h i j l lj (clash-back i j (omega arith) lj c)
 
-  pair-same : (q : Pair n m v) (x : ℕ × ℕ) → target m v (q .a) (q .b) ≡ x → (q′ : Pair n m v′) × (target m v′ (q′ .a) (q′ .b) ≡ x)
+  pub pair-same : (q : Pair n m v) (x : ℕ × ℕ) → target m v (q .a) (q .b) ≡ x → (q′ : Pair n m v′) × (target m v′ (q′ .a) (q′ .b) ≡ x)
   unfolding target
   pair-same q x is =
       let o = q .ordered in

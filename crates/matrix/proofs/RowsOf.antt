@@ -9,6 +9,9 @@ use Rattle.algebra.proofs.Cases.{case-le}
 use native.Mathlib.Omega.{arith}
 use lib.ListN.{length, getD, set, length-set}
 use lib.Seq.{ext-getD, getD-set-same, getD-set-other}
+use Rattle.algebra.specs.Prime.{Prime}
+use Rattle.poly.specs.Modulus.{Ready}
+use Rattle.poly.specs.Polynomial.{Coefficients}
 use Rattle.lists.proofs.Last.{last-is, last-unique}
 use Rattle.lists.proofs.Part.{length-part, getD-part}
 use Rattle.buffers.specs.Place.{place}
@@ -16,12 +19,13 @@ use Rattle.buffers.specs.Added.{RowAdded}
 use Rattle.buffers.proofs.Place.{place-own, place-hit}
 use Rattle.rows.specs.Asked.{Short}
 use Rattle.reduction.specs.Pivot.{pivot, index, height}
-use Rattle.reduction.proofs.Index.{index-some, height-some, height-pos, height-bound}
+use Rattle.reduction.specs.Pair.{Reducing}
+use Rattle.reduction.proofs.Index.{index-some, height-some, height-pos, height-bound, clash-first, clash-second}
 use Rattle.pivots.specs.Pivot.{valueOf, rowOf, IsPivotOf, Pivots}
 use Rattle.pivots.proofs.Grid.{line-end, within}
 use Rattle.pivots.proofs.Search.{past-height}
 use Rattle.matrix.specs.Move.{leadingAt}
-use Rattle.matrix.specs.Asked.{LeadingAsked, PivotAsked, Renewed}
+use Rattle.matrix.specs.Asked.{LeadingAsked, PivotAsked, PlanAsked, Renewed}
 use Rattle.matrix.proofs.Loop.{valuesOf, values-most}
 
 module _ (n m w : ℕ) (columns : 0 < m) (r : List ℕ) (size : length r ≡ n * (m * w)) where
@@ -86,8 +90,24 @@ module _ (n m w : ℕ) (columns : 0 < m) (r : List ℕ) (size : length r ≡ n *
           last-is (w * m) (λ x. getD (rowOf m w r i) (x % m * w + x / m) 0) .top some
           (row-at i (pivot m v .col) (pivot m v .deg) li column-fits degree-fits ∙ sym (ap₂ (λ (x y : ℕ). getD r (place m w i x y) 0) col deg) ∙ z)
 
-      pub pivot-asked : n ≤ length indices → n ≤ length degrees → PivotAsked m w i r indices degrees
+      pivot-asked : n ≤ length indices → n ≤ length degrees → PivotAsked m w i r indices degrees
       pivot-asked x y = record { index-room = omega arith; degree-room = omega arith; leading = leading-asked; nonzero = N.pos-of-ne-zero lead }
+
+    -- what the places of a row have above its height, as the lists have it
+    pub list-short : (i : ℕ) → i < n → Short w (getD degrees i 0) m (place m w i) r
+    list-short i li = subst (λ (h : ℕ). Short w h m (place m w i) r) (sym (pivots .row i li .degree-is)) (row-short i li)
+
+    -- of two rows that a step reduces
+    pub plan-asked : {p reciprocal l k : ℕ} → Ready p reciprocal → Prime p → Coefficients p r → n ≤ length indices → n ≤ length degrees
+        → Reducing n m (valuesOf m w r) l k → PlanAsked p reciprocal m w l k r indices degrees
+    plan-asked {l = l} {k = k} ready prime residues x y reducing = record {
+      ready = ready;
+      prime = prime;
+      residues = residues;
+      l-pivot = pivot-asked l (reducing .l-fits) (clash-first (reducing .clash)) x y;
+      k-pivot = pivot-asked k (reducing .k-fits) (clash-second (reducing .clash)) x y;
+      order = omega (arith, pivots .row l (reducing .l-fits) .degree-is, pivots .row k (reducing .k-fits) .degree-is, reducing .degrees);
+    }
 
 -- a place tells its row
 row-own : (s i l x y : ℕ) → x < s → y < s → i * s + x ≡ l * s + y → i ≡ l

@@ -17,7 +17,7 @@ use Rattle.buffers.proofs.Held.{held-coefficients}
 use Rattle.rows.specs.Asked.{Short}
 use Rattle.reduction.specs.Pivot.{index, height}
 use Rattle.reduction.specs.Pair.{Pair, NoPair, target, Reducing}
-use Rattle.reduction.proofs.Index.{clash-first, clash-second}
+use Rattle.reduction.proofs.Index.{clash-second}
 use Rattle.pivots.specs.Columns.{Indices}
 use Rattle.pivots.specs.Pair.{NextAsked, IsNextOf}
 use Rattle.pivots.specs.Pivot.{Pivots}
@@ -27,10 +27,10 @@ use Rattle.matrix.specs.Asked.{AdvanceAsked, Advanced}
 use Rattle.matrix.specs.Running.{RunAsked, Ran}
 use Rattle.matrix.proofs.Following.{renew-asked}
 use Rattle.matrix.proofs.Loop.{valuesOf, values-total, Input, LoopAt, loop-reducing, loop-start, loop-last, loop-turn, loop-falls, u-short, u-room, v-short}
-use Rattle.matrix.proofs.RowsOf.{row-short, height-under, pivot-asked, size-after, pivots-after}
+use Rattle.matrix.proofs.RowsOf.{height-under, list-short, plan-asked, size-after, pivots-after}
 
 -- a pivot index is a column or 0
-index-most : (m v : ℕ) → 0 < m → index m v ≤ m
+pub index-most : (m v : ℕ) → 0 < m → index m v ≤ m
 unfolding index
 index-most m zero columns = omega arith
 index-most m (suc x) columns = N.mod-lt _ columns
@@ -103,28 +103,15 @@ module _ (p reciprocal n m w : ℕ) (a u₀ v₀ spare₀ index₀ degree₀ : L
       reducing : Reducing n m (valuesOf m w r) l k
       reducing = loop-reducing (next .0) (next .1)
 
-      l-some : 0 < valuesOf m w r l
-      l-some = clash-first (reducing .clash)
-
       k-some : 0 < valuesOf m w r k
       k-some = clash-second (reducing .clash)
-
-      short : (i : ℕ) → i < n → Short w (getD degrees i 0) m (place m w i) r
-      short i li = subst (λ (h : ℕ). Short w h m (place m w i) r) (sym (inv .pivots .row i li .degree-is)) (row-short n m w (asked .columns) r size i li)
 
       pub l-fits : l < n
       l-fits = reducing .l-fits
 
       pub advance-asked : AdvanceAsked p reciprocal n m w l k spent r u v spare indices degrees
       advance-asked = record {
-        plan = record {
-          ready = asked .ready;
-          prime = asked .prime;
-          residues = held-coefficients (by-rows n m w) p (here .holding .R);
-          l-pivot = pivot-asked n m w (asked .columns) r size indices degrees (inv .pivots) l l-fits l-some index-room degree-room;
-          k-pivot = pivot-asked n m w (asked .columns) r size indices degrees (inv .pivots) k (reducing .k-fits) k-some index-room degree-room;
-          order = omega (arith, inv .pivots .row l l-fits .degree-is, inv .pivots .row k (reducing .k-fits) .degree-is, reducing .degrees);
-        };
+        plan = plan-asked n m w (asked .columns) r size indices degrees (inv .pivots) (asked .ready) (asked .prime) (held-coefficients (by-rows n m w) p (here .holding .R)) index-room degree-room reducing;
         columns = asked .columns;
         l-fits = l-fits;
         k-fits = reducing .k-fits;
@@ -133,8 +120,8 @@ module _ (p reciprocal n m w : ℕ) (a u₀ v₀ spare₀ index₀ degree₀ : L
         v-size = here .holding .V′ .size;
         u-residues = held-coefficients (by-rows n n (n * w)) p (here .holding .U);
         v-residues = held-coefficients (by-rows n n w) p (here .holding .V′);
-        l-short = short l l-fits;
-        k-short = short k (reducing .k-fits);
+        l-short = list-short n m w (asked .columns) r size indices degrees (inv .pivots) l l-fits;
+        k-short = list-short n m w (asked .columns) r size indices degrees (inv .pivots) k (reducing .k-fits);
         u-short = record { zero = u-short input (asked .prime) positive here (inv .pivots) k spent (reducing .k-fits) k-some (inv .lost) };
         u-room = u-room n m w a degrees l spent l-fits (inv .lost);
         v-short = record { zero = v-short input (asked .prime) positive here (inv .pivots) l l-fits };

@@ -7,16 +7,17 @@ use lib.ListN.{length, getD}
 use Rattle.algebra.specs.Prime.{Prime}
 use Rattle.lists.proofs.Total.{total-same}
 use Rattle.poly.specs.Modulus.{Ready}
+use Rattle.poly.specs.Polynomial.{Coefficients}
 use Rattle.buffers.specs.Diagonal.{Diagonal}
 use Rattle.rows.specs.Asked.{Square}
 use Rattle.reduction.specs.Pivot.{index}
 use Rattle.reduction.specs.Rank.{sign}
 use Rattle.pivots.specs.Pivot.{Pivots}
-use Rattle.refusals.specs.Refused.{Verdict, reductionSizes}
+use Rattle.refusals.specs.Refused.{Numbers, Verdict, reductionSizes}
 use Rattle.refusals.specs.declared.Check.the-variants.{Fine}
 use Rattle.refusals.proofs.Verdicts.{row-few, cell-few, matrix-few}
 use Rattle.matrix.specs.Listed.{IsListed}
-use Rattle.matrix.specs.Running.{StartAsked, RunAsked, Ran}
+use Rattle.matrix.specs.Running.{InputAsked, StartAsked, RunAsked, Ran}
 use Rattle.matrix.specs.Answer.{lengths, IsDone, Answered, AnsweredDone}
 use Rattle.matrix.specs.declared.reducing.Answer.{Answer}
 use Rattle.matrix.specs.declared.reducing.Answer.the-variants.{NotDone, Done}
@@ -27,21 +28,21 @@ pub run-asked : {p reciprocal n m w : ℕ} {r u v spare indices degrees : List �
     → length spare ≡ 512 → length indices ≡ 8 → length degrees ≡ 8 → Pivots n m (valuesOf m w r) indices degrees
     → RunAsked p reciprocal n m w r u v spare indices degrees
 run-asked asked spare indices degrees pivots = record {
-  ready = asked .ready;
-  prime = asked .prime;
-  columns = asked .columns;
-  columns-most = asked .columns-most;
-  places = asked .places;
-  size = asked .size;
-  small = asked .small;
-  residues = asked .residues;
+  ready = asked .input .ready;
+  prime = asked .input .prime;
+  columns = asked .input .columns;
+  columns-most = asked .input .columns-most;
+  places = asked .input .places;
+  size = asked .input .size;
+  small = asked .input .small;
+  residues = asked .input .residues;
   u-one = asked .u-one;
   v-one = asked .v-one;
   pivots = pivots;
-  index-room = omega (arith, asked .rows-most);
-  degree-room = omega (arith, asked .rows-most);
-  row-room = omega (arith, asked .row-few);
-  cell-room = omega (arith, asked .cell-few);
+  index-room = omega (arith, asked .input .rows-most);
+  degree-room = omega (arith, asked .input .rows-most);
+  row-room = omega (arith, asked .input .row-few);
+  cell-room = omega (arith, asked .input .cell-few);
 }
 
 -- a pivot index is 0 where the row's value is
@@ -64,7 +65,25 @@ is-done {n = n} {m = m} {w = w} {r = r} {indices = indices} rank rows ran listed
     same : (i : ℕ) → i < n → sign (getD indices i 0) ≡ sign (valuesOf m w r i)
     same i l = ap sign (ran .indices-are i l) ∙ sign-index m (valuesOf m w r i)
 
--- all checks have passed
+-- all checks have passed: the numbers are in range, and the input has its length and its residues
+pub input-asked : {p n m d : ℕ} {a : List ℕ} → Numbers p n m d → length a ≡ n * (m * (d + 1)) → Coefficients p a
+    → {q reciprocal : ℕ} {r : List ℕ} → q ≡ p → Ready q reciprocal → r ≡ a → InputAsked q reciprocal n m (d + 1) r
+input-asked {p} {n} {m} {d} numbers size residues q-is ready r-is = record {
+  ready = ready;
+  prime = subst Prime (sym q-is) (numbers .modulus .prime);
+  rows = omega (arith, numbers .shape .rows);
+  rows-most = numbers .shape .rows-most;
+  columns = omega (arith, numbers .shape .columns);
+  columns-most = numbers .shape .columns-most;
+  places = omega arith;
+  row-few = row-few p n m d numbers;
+  cell-few = cell-few p n m d numbers;
+  small = matrix-few p n m d numbers;
+  size = ap length r-is ∙ size;
+  residues = rw q-is (rw r-is residues);
+}
+
+-- the checks of the reduction
 pub record Passed (p n m d : ℕ) (a r u v : List ℕ) : Type 0 where
   pub verdict : Verdict p n m d (lengths a r u v) (reductionSizes n m d) a Fine
 
@@ -89,22 +108,7 @@ module _ {p n m d : ℕ} {a r u v : List ℕ} (passed : Passed p n m d a r u v) 
 
   pub start-asked : {q reciprocal : ℕ} {r′ u′ v′ : List ℕ} → q ≡ p → Ready q reciprocal → r′ ≡ a → Diagonal n (n * (d + 1)) u′ → Diagonal n (d + 1) v′
       → StartAsked q reciprocal n m (d + 1) r′ u′ v′
-  start-asked q-is ready r-is u-one v-one = record {
-    ready = ready;
-    prime = subst Prime (sym q-is) (fine .0 .modulus .prime);
-    rows = omega (arith, fine .0 .shape .rows);
-    rows-most = fine .0 .shape .rows-most;
-    columns = omega (arith, fine .0 .shape .columns);
-    columns-most = fine .0 .shape .columns-most;
-    places = omega arith;
-    row-few = row-few p n m d (fine .0);
-    cell-few = cell-few p n m d (fine .0);
-    small = matrix-few p n m d (fine .0);
-    size = ap length r-is ∙ sized 0;
-    residues = rw q-is (rw r-is (fine .2));
-    u-one = u-one;
-    v-one = v-one;
-  }
+  start-asked q-is ready r-is u-one v-one = record { input = input-asked (fine .0) (sized 0) (fine .2) q-is ready r-is; u-one = u-one; v-one = v-one }
 
   pub answered : (q : ℕ) (b r′ u′ v′ : List ℕ) (x : Answer) → q ≡ p → b ≡ a → AnsweredDone q n m (d + 1) b r′ u′ v′ x → Answered p n m d a r u v r′ u′ v′ x
   answered q b r′ u′ v′ (NotDone x) q-is b-is h = absurd h

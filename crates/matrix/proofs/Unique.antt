@@ -1,18 +1,22 @@
--- The promise of the reduction leaves one answer only.
+-- The promises of the services leave one answer only.
 use mathlib.Core.Path.{_≡_, sym, ap, subst, _∙_}
-use mathlib.Core.List.{List}
-use Prim.Native.Nat.{ℕ, _*_}
+use mathlib.Core.Logic.{_⊎_, inl, inr}
+use mathlib.Core.List.{List, [], _∷_}
+use Prim.Native.Nat.{ℕ, _*_, _+_}
+use lib.ListN.{length}
 use native.Mathlib.Omega.{arith}
 use Rattle.algebra.specs.Prime.{Prime}
 use Rattle.algebra.specs.Residue.{Zp}
 use Rattle.algebra.proofs.PrimeField.{zp-field}
 use Rattle.buffers.proofs.Held.{held-unique}
 use Rattle.buffers.proofs.Place.{by-rows}
+use Rattle.reduction.specs.Pair.{Pair, NoPair}
 use Rattle.reduction.specs.Rank.{chosen}
 use Rattle.reduction.specs.Step.{Carried}
 use Rattle.reduction.proofs.Ending.{runs-unique}
+use Rattle.reduction.proofs.Pair.{pair-exclusive}
 use Rattle.pivots.specs.Pivot.{valueOf, rowOf}
-use Rattle.refusals.specs.Refused.{Verdict, reductionSizes}
+use Rattle.refusals.specs.Refused.{Verdict, reductionSizes, stepSizes}
 use Rattle.refusals.specs.declared.Refusal.{Refusal}
 use Rattle.refusals.specs.declared.Check.{Check}
 use Rattle.refusals.specs.declared.Check.the-variants.{Fine, Refused}
@@ -21,6 +25,9 @@ use Rattle.matrix.specs.Holding.{Holding}
 use Rattle.matrix.specs.Listed.{maskOf}
 use Rattle.matrix.specs.Reduced.{Reduced}
 use Rattle.matrix.specs.Answer.{lengths, IsDone, Answered}
+use Rattle.matrix.specs.Single.{Stepped, StepAnswered}
+use Rattle.matrix.specs.declared.single.StepAnswer.{StepAnswer}
+use Rattle.matrix.specs.declared.single.StepAnswer.the-variants as Step
 use Rattle.matrix.specs.declared.reducing.Answer.{Answer}
 use Rattle.matrix.specs.declared.reducing.Answer.the-variants.{NotDone, Done}
 
@@ -76,3 +83,34 @@ module _ (p n m d : ℕ) (a r u v : List ℕ) where
   answered-unique r₁ u₁ v₁ r₂ u₂ v₂ (NotDone x) (Done rank count rows) f g = absurd (refused-fine x (judged-unique (Refused x) Fine (f .0) (g .0)))
   answered-unique r₁ u₁ v₁ r₂ u₂ v₂ (Done rank count rows) (NotDone y) f g = absurd (refused-fine y (judged-unique (Refused y) Fine (g .0) (f .0)))
   answered-unique r₁ u₁ v₁ r₂ u₂ v₂ (Done rank count rows) (Done rank′ count′ rows′) f g = done-unique (f .0 .0 .modulus .prime) (f .1) (g .1)
+
+-- a step is called for or not
+counted-unique : (n m : ℕ) (z : ℕ → ℕ) (c c′ : ℕ) → ((c ≡ 0) × NoPair n m z) ⊎ ((c ≡ 1) × Pair n m z)
+    → ((c′ ≡ 0) × NoPair n m z) ⊎ ((c′ ≡ 1) × Pair n m z) → c ≡ c′
+counted-unique n m z c c′ (inl (e, _)) (inl (e′, _)) = e ∙ sym e′
+counted-unique n m z c c′ (inl (_, none)) (inr (_, pair)) = absurd (pair-exclusive n m z pair none)
+counted-unique n m z c c′ (inr (_, pair)) (inl (_, none)) = absurd (pair-exclusive n m z pair none)
+counted-unique n m z c c′ (inr (e, _)) (inr (e′, _)) = e ∙ sym e′
+
+-- the input determines the count of the single step and its result
+stepped-unique : (p n m w c c′ : ℕ) (a r r′ : List ℕ) → Prime p → Stepped p n m w c a r → Stepped p n m w c′ a r′ → (c ≡ c′) × (r ≡ r′)
+stepped-unique p n m w c c′ a r r′ P x y =
+    let f = x .by P (omega (arith, P .two)) in
+    let g = y .by P (omega (arith, P .two)) in
+    (counted-unique n m _ c c′ (f .counted) (g .counted), held-unique (by-rows n m w) p (f .held) (g .held))
+
+module _ (p n m d : ℕ) (a r : List ℕ) where
+  -- there is one verdict on a call of the single step
+  step-judged-unique : (x y : Check) → Verdict p n m d (length a ∷ length r ∷ []) (stepSizes n m d) a x
+      → Verdict p n m d (length a ∷ length r ∷ []) (stepSizes n m d) a y → x ≡ y
+  step-judged-unique = verdict-unique p n m d (length a ∷ length r ∷ []) (stepSizes n m d) a
+
+  pub step-answered-unique : (r₁ r₂ : List ℕ) (x y : StepAnswer) → StepAnswered p n m d a r r₁ x → StepAnswered p n m d a r r₂ y
+      → (x ≡ y) × (r₁ ≡ r₂)
+  step-answered-unique r₁ r₂ (Step.NotDone x) (Step.NotDone y) (f, r-x) (g, r-y) =
+      (ap Step.NotDone (refused-same x y (step-judged-unique (Refused x) (Refused y) f g)), r-x ∙ sym r-y)
+  step-answered-unique r₁ r₂ (Step.NotDone x) (Step.Done c) f g = absurd (refused-fine x (step-judged-unique (Refused x) Fine (f .0) (g .0)))
+  step-answered-unique r₁ r₂ (Step.Done c) (Step.NotDone y) f g = absurd (refused-fine y (step-judged-unique (Refused y) Fine (g .0) (f .0)))
+  step-answered-unique r₁ r₂ (Step.Done c) (Step.Done c′) f g =
+      let (counts, results) = stepped-unique p n m (d + 1) c c′ a r₁ r₂ (f .0 .0 .modulus .prime) (f .1) (g .1) in
+      (ap Step.Done counts, results)

@@ -6,3 +6,4 @@ pub mod Running
 pub mod Listed
 pub mod Answer
 pub mod Facts
+pub mod Single

@@ -11,8 +11,8 @@ use Rattle.reduction.specs.Pivot.{index}
 use Rattle.pivots.specs.Pivot.{valueOf, rowOf, Pivots}
 use Rattle.matrix.specs.Reduced.{Reduced}
 
--- a matrix in r, U and V the identity
-pub record StartAsked (p reciprocal n m w : ℕ) (r u v : List ℕ) : Type 0 where
+-- a matrix in r that has passed the checks
+pub record InputAsked (p reciprocal n m w : ℕ) (r : List ℕ) : Type 0 where
   pub ready : Ready p reciprocal
   pub prime : Prime p
   pub rows : 0 < n
@@ -25,6 +25,10 @@ pub record StartAsked (p reciprocal n m w : ℕ) (r u v : List ℕ) : Type 0 whe
   pub small : n * (m * w) ≤ 4096
   pub size : length r ≡ n * (m * w)
   pub residues : Coefficients p r
+
+-- and U and V the identity
+pub record StartAsked (p reciprocal n m w : ℕ) (r u v : List ℕ) : Type 0 where
+  pub input : InputAsked p reciprocal n m w r
   pub u-one : Diagonal n (n * w) u
   pub v-one : Diagonal n w v
 

@@ -1,10 +1,8 @@
 // The whole reduction.
-ghost use mathlib.Core.Path.{_≡_};
-ghost use Prim.Native.Nat.{_*_};
-ghost use lib.ListN.{length};
 ghost use Rattle.matrix.specs.Running.{StartAsked, RunAsked, Ran};
 ghost use Rattle.matrix.specs.Answer.{Answered, AnsweredDone};
 use crate::listing;
+use crate::scratch;
 use crate::stepping;
 use pivots::Next;
 use pivots::pivot;
@@ -51,19 +49,6 @@ fn run(
     }
 }
 
-fn eight() -> [usize; 8]
-    ensures { λ x. ⌜ length x ≡ 8 ⌝ }
-{
-    [0; 8]
-}
-
-// Room for a row of eight cells of 64 places, or for a cell of U.
-fn room() -> [u16; 512]
-    ensures { λ x. ⌜ length x ≡ 512 ⌝ }
-{
-    [0; 512]
-}
-
 // The reduction of the matrix in r, with room of its own.
 fn work(
     r: &mut [u16],
@@ -77,9 +62,9 @@ fn work(
     requires { ⌜ StartAsked (md .p) (md .reciprocal) n m w (now r) (now u) (now v) ⌝ }
     ensures { λ x. ⌜ AnsweredDone (md .p) n m w (now (r .entry)) (now (r .exit)) (now (u .exit)) (now (v .exit)) x ⌝ }
 {
-    let mut spare = room();
-    let mut index = eight();
-    let mut degree = eight();
+    let mut spare = scratch::room();
+    let mut index = scratch::eight();
+    let mut degree = scratch::eight();
     pivot::all(r, &mut index, &mut degree, n, m, w);
     let count = run(r, u, v, &mut spare, &mut index, &mut degree, n, m, w, md);
     let x = listing::list(&index, n);

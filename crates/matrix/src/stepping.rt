@@ -38,7 +38,7 @@ fn divide(a: Residue, b: Residue, e: usize, md: Modulus) -> Move
 }
 
 // What the step on rows l and k takes away.
-fn plan(
+pub fn plan(
     r: &[u16],
     index: &[usize],
     degree: &[usize],

@@ -1,8 +1,10 @@
 // The services for programs in C: each forwards to the matrix crate and tells the answer by its numbers.
-ghost use Rattle.matrix.specs.declared.reducing.Answer.the-variants.{NotDone};
-ghost use Rattle.moorbesen.specs.Reply.{Refusing, Tells, Replied};
+ghost use Rattle.refusals.specs.Number.{numberOf, placeOf};
+ghost use Rattle.moorbesen.specs.Reply.{Refusing, Replied, StepReplied};
 use matrix::reducing;
 use matrix::reducing::Answer;
+use matrix::single;
+use matrix::single::StepAnswer;
 use refusals::Refusal;
 
 // In `rows`, bit i - 1 stands for row i.
@@ -28,7 +30,7 @@ fn refusal(number: usize, place: usize) -> Reply
 }
 
 fn refused(x: Refusal) -> Reply
-    ensures { λ y. ⌜ Tells (NotDone x) (y .number) (y .place) (y .rank) (y .count) (y .rows) ⌝ }
+    ensures { λ y. ⌜ Refusing (numberOf x) (placeOf x) (y .number) (y .place) (y .rank) (y .count) (y .rows) ⌝ }
 {
     match x {
         Refusal::Modulus => refusal(1, 0),
@@ -60,6 +62,30 @@ pub extern "C" fn moorbesen_reduce(
             rank,
             count,
             rows,
+        },
+    }
+}
+
+// It has no rank and no list of rows: both are 0.
+#[no_mangle]
+pub extern "C" fn moorbesen_step(
+    p: u32,
+    n: usize,
+    m: usize,
+    d: usize,
+    a: &[u16],
+    r: &mut [u16],
+) -> Reply
+    ensures { λ x. ⌜ StepReplied p n m d (now (a .entry)) (now (r .entry)) (now (r .exit)) (x .number) (x .place) (x .rank) (x .count) (x .rows) ⌝ }
+{
+    match single::step(p, n, m, d, a, r) {
+        StepAnswer::NotDone(x) => refused(x),
+        StepAnswer::Done(count) => Reply {
+            number: 0,
+            place: 0,
+            rank: 0,
+            count,
+            rows: 0,
         },
     }
 }

@@ -1,6 +1,6 @@
 //! second check COUNT SEED
 //!     runs COUNT samples and pairs through all checks of this program;
-//! second compare reduce COUNT SEED
+//! second compare reduce|step COUNT SEED
 //!     compares with the proved program (feature `proved`).
 //! The last line says how many passed and how many failed.
 
@@ -8,7 +8,7 @@ use second::refuse::Service;
 use second::{check, refuse, sample};
 use std::process::ExitCode;
 
-const USAGE: &str = "use: second check COUNT SEED\n     second compare reduce COUNT SEED";
+const USAGE: &str = "use: second check COUNT SEED\n     second compare reduce|step COUNT SEED";
 
 fn main() -> ExitCode {
     let arguments: Vec<String> = std::env::args().skip(1).collect();
@@ -40,6 +40,7 @@ fn main() -> ExitCode {
 fn service(name: &str) -> Result<Service, String> {
     match name {
         "reduce" => Ok(Service::Reduction),
+        "step" => Ok(Service::SingleStep),
         _ => Err(USAGE.to_string()),
     }
 }

@@ -1,7 +1,5 @@
-use mathlib.Core.Path.{subst}
-use Rattle.matrix.specs.Answer.{Answered}
 use borrow.Author.Needs.{needs}
-use Rattle.moorbesen.proofs.Replies.{replied-done}
+use Rattle.moorbesen.proofs.Replies.{replied-refused, replied-done}
 use Rattle.moorbesen.proofs.moorbesen_reduce.Statement.{statement}
 use Rattle.moorbesen.proofs.moorbesen_reduce.Tie as tie
 
@@ -27,7 +25,7 @@ same-length-3 : tie.Need-same-length-3
 same-length-3 c = search needs
 
 returns : tie.Need-returns
-returns c = record { answer = _; answered = subst (Answered _ _ _ _ _ _ _ _ _ _ _) (c .before .before .x .given .1) (c .before .before .before .before .before .before .before .before .before .before .reduce .ensures); tells = c .refused .ensures }
+returns c = replied-refused (c .before .before .before .before .before .before .before .before .before .before .reduce .result) _ (c .before .before .x .given .1) (c .before .before .before .before .before .before .before .before .before .before .reduce .ensures) (c .refused .ensures)
 
 same-length-4 : tie.Need-same-length-4
 same-length-4 c = search needs

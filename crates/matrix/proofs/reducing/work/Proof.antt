@@ -42,7 +42,11 @@ slice-aggregate-list : tie.Need-slice-aggregate-list
 slice-aggregate-list c = search needs
 
 list-requires : tie.Need-list-requires
-list-requires c κs = search needs
+list-requires c κs =
+    let ran = c .before .before .before .before .before .before .before .before .before .before in
+    let found = ran .before .before .before .before .before .before .before .before .before in
+    let asked = found .before .before .before .before .before .before .before .before .before .before .pre .input in
+    record { few = asked .rows-most; room = omega (arith, asked .rows-most, ran .run .kept .1 .1 .1 .1 .0, found .all .kept .1 .0, found .before .before .before .before .before .eight .ensures) }
 
 same-length : tie.Need-same-length
 same-length c = search needs

@@ -10,11 +10,7 @@ use Rattle.matrix.proofs.Following.{row-asked, u-asked, v-asked, renew-
 use Rattle.matrix.proofs.stepping.advance.Statement.{statement}
 use Rattle.matrix.proofs.stepping.advance.Tie as tie
 
--- sizes that fit: a row of the spare room is as long as a cell of U, and longer than one of V
-cell-small : {p reciprocal n m w l k spent : ℕ} {r u v spare indices degrees : List ℕ}
-    → AdvanceAsked p reciprocal n m w l k spent r u v spare indices degrees → n * w ≤ length spare
-cell-small asked = asked .cell-room
-
+-- a row of the spare room is longer than a cell of V
 width-small : {p reciprocal n m w l k spent : ℕ} {r u v spare indices degrees : List ℕ}
     → AdvanceAsked p reciprocal n m w l k spent r u v spare indices degrees → w ≤ length spare
 width-small {n = n} {w = w} asked = omega (arith, asked .cell-room, one-line n w (omega (arith, asked .l-fits)))
@@ -37,13 +33,14 @@ slice-read-low c = search needs
 add-row-requires : tie.Need-add-row-requires
 add-row-requires c κs =
     let planned = c .before .before .before .before in
-    row-asked _ _ _ _ _ _ _ _ _ _ _ _ _ _ (planned .before .before .before .before .before .before .before .before .before .before .pre) _ _ _ (planned .plan .ensures) _ refl
+    let asked = planned .before .before .before .before .before .before .before .before .before .before .pre in
+    row-asked _ _ _ _ _ _ _ _ _ (asked .plan) _ _ _ (planned .plan .ensures) (asked .k-short) (asked .row-room)
 
 mul-add-row-by-cells : tie.Need-mul-add-row-by-cells
-mul-add-row-by-cells c = let start = c .before .before .before .before .before .before .before .before .before .before .before .before .before .before .before .before .before .before .before .before .before in omega (arith, cell-small (start .pre), start .good)
+mul-add-row-by-cells c = let start = c .before .before .before .before .before .before .before .before .before .before .before .before .before .before .before .before .before .before .before .before .before in omega (arith, start .pre .cell-room, start .good)
 
 add-add-row-by-cells : tie.Need-add-add-row-by-cells
-add-add-row-by-cells c = let start = c .before .before .before .before .before .before .before .before .before .before .before .before .before .before .before .before .before .before .before .before .before in omega (arith, start .pre .u-room, start .pre .plan .order, cell-small (start .pre), start .good)
+add-add-row-by-cells c = let start = c .before .before .before .before .before .before .before .before .before .before .before .before .before .before .before .before .before .before .before .before .before in omega (arith, start .pre .u-room, start .pre .plan .order, start .pre .cell-room, start .good)
 
 add-row-by-cells-requires : tie.Need-add-row-by-cells-requires
 add-row-by-cells-requires c κs =

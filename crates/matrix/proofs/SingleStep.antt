@@ -1,0 +1,112 @@
+-- The single step: what its parts ask, and what it leaves.
+use mathlib.Core.Path.{_≡_, refl, sym, ap, subst, _∙_}
+use mathlib.Core.Logic.{inl, inr}
+use mathlib.Core.List.{List}
+use Prim.Native.Nat.{ℕ, _≤_, _<_}
+use native.Mathlib.Omega.{arith}
+use lib.ListN.{length, getD}
+use Rattle.algebra.specs.Field.{Field}
+use Rattle.algebra.specs.Prime.{Prime}
+use Rattle.algebra.specs.Residue.{Zp}
+use Rattle.algebra.proofs.PrimeField.{zp-field}
+use Rattle.lattice.specs.Row.{Row}
+use Rattle.buffers.specs.Held.{Held, matrixOf}
+use Rattle.buffers.specs.Added.{RowAdded}
+use Rattle.buffers.proofs.Place.{by-rows}
+use Rattle.buffers.proofs.Held.{held-matrixOf}
+use Rattle.rows.specs.Asked.{RowsInBuffer}
+use Rattle.reduction.specs.Pivot.{values}
+use Rattle.reduction.specs.Pair.{Pair, NoPair, target, Reducing}
+use Rattle.reduction.specs.Step.{reduce-row}
+use Rattle.reduction.specs.Run.{step}
+use Rattle.reduction.proofs.SingleStep.{step-pair, step-none}
+use Rattle.pivots.specs.Pair.{NextAsked, IsNextOf}
+use Rattle.pivots.specs.Pivot.{Pivots}
+use Rattle.pivots.specs.declared.pair.Next.the-variants.{Rows}
+use Rattle.matrix.specs.Move.{Factor}
+use Rattle.matrix.specs.Asked.{PlanAsked}
+use Rattle.matrix.specs.Running.{InputAsked}
+use Rattle.matrix.specs.Single.{Stepped}
+use Rattle.matrix.proofs.Value.{value-held}
+use Rattle.matrix.proofs.Moving.{step-held}
+use Rattle.matrix.proofs.Following.{row-asked}
+use Rattle.matrix.proofs.Loop.{valuesOf, no-pair-same, pair-same, loop-reducing}
+use Rattle.matrix.proofs.RowsOf.{list-short, plan-asked}
+use Rattle.matrix.proofs.Running.{index-most}
+
+module _ {p reciprocal n m w : ℕ} {r : List ℕ} (asked : InputAsked p reciprocal n m w r) where
+  -- the matrix that r holds
+  module _ (P : Prime p) (some : 0 < p) where
+    abbrev K : Field (Zp p)
+    K = zp-field p P
+
+    abbrev A : ℕ → Row (Zp p)
+    A = matrixOf (by-rows n m w) p some r
+
+    abbrev v : ℕ → ℕ
+    v = values K m w A
+
+    first : Held (by-rows n m w) p r A
+    first = held-matrixOf (by-rows n m w) p some r (asked .size) (asked .residues)
+
+    -- the values of its rows are those that are read off r
+    agree : (i : ℕ) → i < n → valuesOf m w r i ≡ v i
+    agree i li = sym (value-held p P n m w first (asked .columns) i li)
+
+    -- the step on its pair, where that is rows l and k
+    step-rows : (q : Pair n m v) {l k : ℕ} → target m v (q .a) (q .b) ≡ (l, k) → step K n m w A ≡ reduce-row K m w l k A
+    step-rows q e = step-pair K n m w A q ∙ ap (λ (x : ℕ × ℕ). reduce-row K m w (x .0) (x .1) A) e
+
+  -- where no step applies, r is left as it is
+  pub stepped-none : NoPair n m (valuesOf m w r) → Stepped p n m w 0 r r
+  stepped-none h = record {
+    by = λ P some.
+        let none = no-pair-same n m _ _ (agree P some) h in
+        record {
+          held = subst (Held (by-rows n m w) p r) (sym (step-none (K P some) n m w (A P some) none)) (first P some);
+          counted = inl (refl, none);
+        };
+  }
+
+  -- eight numbers are enough for the rows
+  eight-room : (s : ℕ) → s ≡ 8 → n ≤ s
+  eight-room s e = omega (arith, asked .rows-most)
+
+  -- what the choice of the rows asks
+  pub choice-asked : {indices degrees : List ℕ} → Pivots n m (valuesOf m w r) indices degrees → length indices ≡ 8 → length degrees ≡ 8 → NextAsked n indices degrees
+  choice-asked pivots x y = record {
+    indices-are = record { room = eight-room _ x; few = λ i l. omega (arith, pivots .row i l .index-is, index-most m (valuesOf m w r i) (asked .columns), asked .columns-most) };
+    degrees-room = eight-room _ y;
+  }
+
+  -- rows l and k are to be reduced
+  module _ {l k : ℕ} (next : IsNextOf n m (valuesOf m w r) (Rows l k)) where
+    reducing : Reducing n m (valuesOf m w r) l k
+    reducing = loop-reducing (next .0) (next .1)
+
+    -- row k has its place among eight
+    pub k-room : k < 8
+    k-room = omega (arith, reducing .k-fits, asked .rows-most)
+
+    module _ {indices degrees : List ℕ} (pivots : Pivots n m (valuesOf m w r) indices degrees) where
+      -- what the plan asks
+      pub planning-asked : length indices ≡ 8 → length degrees ≡ 8 → PlanAsked p reciprocal m w l k r indices degrees
+      planning-asked x y = plan-asked n m w (asked .columns) r (asked .size) indices degrees pivots (asked .ready) (asked .prime) (asked .residues) (eight-room _ x) (eight-room _ y) reducing
+
+      module _ {e c f : ℕ} (g : Factor p m w l k r indices degrees e c f) where
+        -- what the subtraction asks
+        pub subtraction-asked : length indices ≡ 8 → length degrees ≡ 8 → {spare : List ℕ} → length spare ≡ 512 → RowsInBuffer p reciprocal f e m w (getD degrees k 0) l k r spare
+        subtraction-asked x y room = row-asked p reciprocal m w l k r indices degrees (planning-asked x y) e c f g
+            (list-short n m w (asked .columns) r (asked .size) indices degrees pivots k (reducing .k-fits)) (omega (arith, asked .row-few))
+
+        -- the subtraction is the step
+        pub stepped-pair : {r′ : List ℕ} → RowAdded p m w f e l k r r′ → Stepped p n m w 1 r r′
+        stepped-pair {r′} added = record {
+          by = λ P some.
+              let (q, q-is) = pair-same n m _ _ (agree P some) (next .0) (l, k) (next .1) in
+              record {
+                held = subst (Held (by-rows n m w) p r′) (sym (step-rows P some q q-is))
+                    (step-held p P n m w (asked .columns) r indices degrees (A P some) (first P some) pivots l k (loop-reducing q q-is) e c f g added);
+                counted = inr (refl, q);
+              };
+        }

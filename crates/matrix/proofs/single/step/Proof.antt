@@ -1,0 +1,61 @@
+use native.Mathlib.Omega.{arith}
+use mathlib.Core.Path.{refl, subst}
+use denote.Ref.{now}
+use Rattle.poly.proofs.Asked.{in-range}
+use Rattle.refusals.specs.Refused.{Verdict}
+use Rattle.matrix.proofs.SingleService.{StepPassed, step-copy-fits, step-asked, step-answered}
+use borrow.Author.Needs.{needs}
+use Rattle.matrix.proofs.single.step.Statement.{statement}
+use Rattle.matrix.proofs.single.step.Tie as tie
+
+-- past the checks all is in order
+known : (c : tie.After-enum-told) → let args = c .before .before .before .before .before .args in
+    StepPassed (args .p) (args .n) (args .m) (args .d) (now (args .a)) (now (args .r))
+known c = record { verdict = subst (Verdict _ _ _ _ _ _ _) (c .enum-told .given .1) (c .before .before .check-step .ensures) }
+
+check-step-requires : tie.Need-check-step-requires
+check-step-requires c κs = search needs
+
+enum-known-x : tie.Need-enum-known-x
+enum-known-x c = search needs
+
+returns : tie.Need-returns
+returns c = (subst (Verdict _ _ _ _ _ _ _) (c .before .x .given .1) (c .before .before .before .check-step .ensures), refl)
+
+enum-told : tie.Need-enum-told
+enum-told c = search needs
+
+copy-requires : tie.Need-copy-requires
+copy-requires c κs = step-copy-fits (known (c .before))
+
+add-once : tie.Need-add-once
+add-once c = omega (arith, known (c .before .before .before .before .before) .verdict .0 .degree)
+
+of-requires : tie.Need-of-requires
+of-requires c κs = in-range (known (c .before .before .before .before .before) .verdict .0 .modulus)
+
+once-requires : tie.Need-once-requires
+once-requires c κs = step-asked (known (c .before .before .before .before .before .before)) (c .of .ensures .0) (c .of .ensures .1) (c .before .before .before .before .copy .ensures)
+
+same-length : tie.Need-same-length
+same-length c = search needs
+
+returns-2 : tie.Need-returns-2
+returns-2 c =
+    let made = c .before .before .before in
+    step-answered (known (made .before .before .before .before .before .before)) _ _ _ _ (made .of .ensures .0) (made .before .before .before .before .copy .ensures) (c .before .before .once .ensures)
+
+pub step-spec : {M : Type 1} → statement M
+step-spec =
+    tie.close
+    (tie.spec
+    check-step-requires
+    enum-known-x
+    returns
+    enum-told
+    copy-requires
+    add-once
+    of-requires
+    once-requires
+    same-length
+    returns-2)
