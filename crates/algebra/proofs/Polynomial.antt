@@ -45,6 +45,12 @@ module _ {F : Type 0} (R : CommRing F) where
   pub below-mul : (f g : ℕ → F) (a b : ℕ) → Below R f a → Below R g b → Below R (f ⊠ g) (a + b - 1)
   below-mul f g a b hf hg k l = mul-at R f g k ∙ sum-null R (suc k) _ (λ i q. beyond f g a b hf hg i (k - i) (λ p. omega arith))
 
+  -- where a zero factor makes the product zero, whatever the other's degree
+  pub below-mul-within : (f g : ℕ → F) (a b c : ℕ) → Below R f (suc a) → Below R g b → (0 < b → a + b ≤ c) → Below R (f ⊠ g) c
+  below-mul-within f g a b c hf hg room k l =
+      mul-at R f g k
+      ∙ sum-null R (suc k) _ (λ i q. beyond f g (suc a) b hf hg i (k - i) (λ p. case-le 1 b (λ some. omega (arith, room some)) (λ none. omega arith)))
+
   -- the leading coefficient of a product
   pub lead-mul : (f g : ℕ → F) (a b : ℕ) → Below R f (suc a) → Below R g (suc b) → (f ⊠ g) (a + b) ≡ f a ⊛ g b
   lead-mul f g a b hf hg =

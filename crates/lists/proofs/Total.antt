@@ -1,7 +1,7 @@
 -- The laws of finite sums of natural numbers.
 use mathlib.Core.Path.{_≡_, refl, sym, _∙_, ap, ap₂}
 use mathlib.Core.Logic.{_≢_}
-use Prim.Native.Nat.{ℕ, zero, suc, _+_, _*_, _≤_, _<_}
+use Prim.Native.Nat.{ℕ, zero, suc, _+_, _-_, _*_, _≤_, _<_}
 use native.Mathlib.Omega.{arith}
 use native.Mathlib.Nat as N
 use Rattle.algebra.specs.Cases.{if-equal}
@@ -42,6 +42,18 @@ pub total-bound : (n b : ℕ) (f : ℕ → ℕ) → ((i : ℕ) → i < n → f i
 unfolding total
 total-bound zero b f h = omega arith
 total-bound (suc n) b f h = omega (arith, total-bound n b f (λ i l. h i (omega arith)), h n (omega arith), N.suc-mul n b)
+
+-- the same where one term stands apart
+pub total-others : (n j b : ℕ) (f : ℕ → ℕ) → j < n → ((i : ℕ) → i < n → f i ≤ b) → total n f ≤ f j + (n - 1) * b
+unfolding total
+total-others zero j b f l h = absurd (omega arith)
+total-others (suc n) j b f l h = let e : suc n - 1 ≡ n = omega arith in rw e (case-le (suc j) n
+    (λ s. omega (arith, total-others n j b f s (λ i r. h i (omega arith)), h n (omega arith), less n s))
+    (λ s. let last : f j ≡ f n = ap f (omega arith) in omega (arith, total-bound n b f (λ i r. h i (omega arith)))))
+  where
+    less : (n : ℕ) → j < n → (n - 1) * b + b ≡ n * b
+    less zero s = absurd (omega arith)
+    less (suc n) s = let e : suc n - 1 ≡ n = omega arith in rw e (sym (N.suc-mul n b))
 
 pub total-scale : (n b : ℕ) (f : ℕ → ℕ) → total n (λ i. f i * b) ≡ total n f * b
 unfolding total

@@ -37,21 +37,21 @@ module _ (p reciprocal m w l k : ℕ) (r indices degrees : List ℕ) (asked : Pl
     spare-room = room;
   }
 
-module _ (p reciprocal n m w l k spent : ℕ) (r u v spare indices degrees : List ℕ)
-    (asked : AdvanceAsked p reciprocal n m w l k spent r u v spare indices degrees)
+module _ (p reciprocal n m w l k reach : ℕ) (r u v spare indices degrees : List ℕ)
+    (asked : AdvanceAsked p reciprocal n m w l k reach r u v spare indices degrees)
     (e c f : ℕ) (g : Factor p m w l k r indices degrees e c f) where
   -- the spare row may have been written before
   module _ (spare′ : List ℕ) (same : length spare′ ≡ length spare) where
-    pub u-asked : LinePair p reciprocal f e n (n * w) (getD degrees k 0 + spent) l k (place n (n * w) k) u spare′
+    pub u-asked : LinePair p reciprocal f e n (n * w) reach l k (place n (n * w) k) u spare′
     u-asked = record {
-      multiplier = record { ready = asked .plan .ready; factor = f-below p reciprocal m w l k r indices degrees (asked .plan) e c f g; room = omega (arith, exponent p reciprocal m w l k r indices degrees (asked .plan) e c f g, asked .u-room) };
+      multiplier = record { ready = asked .plan .ready; factor = f-below p reciprocal m w l k r indices degrees (asked .plan) e c f g; room = omega (arith, g .e-is, asked .u-room) };
       size = asked .u-size;
       x-fits = asked .l-fits;
       y-fits = asked .k-fits;
       differ = asked .differ;
       residues = asked .u-residues;
       short = asked .u-short;
-      spare-room = omega (arith, asked .cell-room, asked .u-room, asked .plan .order);
+      spare-room = omega (arith, asked .cell-room, asked .u-room);
     }
 
     pub v-asked : LinePair p reciprocal c e n w (w + 1 - getD degrees l 0) k l (λ i. place n w i l) v spare′

@@ -1,7 +1,7 @@
 -- The loop of the reduction: what is true of the buffers before every step and after the last.
 use mathlib.Core.Path.{_≡_, sym, _∙_, ap, ap₂, subst}
 use mathlib.Core.List.{List}
-use Prim.Native.Nat.{ℕ, suc, _+_, _-_, _*_, _≤_, _<_}
+use Prim.Native.Nat.{ℕ, zero, suc, _+_, _-_, _*_, _≤_, _<_}
 use native.Mathlib.Omega.{arith}
 use native.Mathlib.Decide.{decLt}
 use native.Mathlib.Nat as N
@@ -33,7 +33,7 @@ use Rattle.reduction.specs.Run.{advance-pair, Runs}
 use Rattle.reduction.proofs.Index.{height-pos, height-bound}
 use Rattle.reduction.proofs.Pair.{target-reducing}
 use Rattle.reduction.proofs.Lowering.{Lowered, value-le}
-use Rattle.reduction.proofs.Degrees.{Narrow, narrow-start}
+use Rattle.reduction.proofs.Degrees.{D, spent-since, Narrow, narrow-start, degrees-most}
 use Rattle.pivots.specs.Pivot.{valueOf, rowOf, Pivots}
 use Rattle.matrix.specs.Holding.{Holding}
 use Rattle.matrix.specs.Move.{Moved}
@@ -44,6 +44,10 @@ use Rattle.matrix.proofs.Moving.{move-lowers, move-narrow, move-holding
 -- the values of the rows that stand in a list
 abbrev pub valuesOf : ℕ → ℕ → List ℕ → ℕ → ℕ
 valuesOf m w r i = valueOf m w (rowOf m w r i)
+
+-- and their pivot degrees, that of a zero row counting as 0
+abbrev pub degreesOf : ℕ → ℕ → List ℕ → ℕ → ℕ
+degreesOf m w r i = height m (valuesOf m w r i) - 1
 
 -- the bounds that hold for every list
 module _ (m w : ℕ) (r : List ℕ) where
@@ -126,7 +130,7 @@ module _ {p n m w : ℕ} {a : List ℕ} (input : Input p n m w a) (P : Prime p) 
   loop-start du dv = record {
     t = begin (K .ring) A;
     holding = record { R = first; U = wide du; V′ = held-identity p P n w (input .places) dv };
-    narrow = narrow-start K n m w A bounded (input .places);
+    narrow = narrow-start K n m w A;
     onward = λ c s x. rw N.zero-add x;
   }
 
@@ -192,34 +196,48 @@ module _ {p n m w : ℕ} {a : List ℕ} (input : Input p n m w a) (P : Prime p) 
             new : (i : ℕ) → i < n → value K m w (t′ .R i) ≡ valuesOf m w r′ i
             new i li = value-held p P n m w (holds .R) (input .columns) i li
 
-      -- where row k of the result is not zero, row k of U has no term from the height of row k on and what all heights have lost since a
-      pub u-short : (k spent : ℕ) → k < n → 0 < valuesOf m w r k
-          → spent + total n (λ i. getD degrees i 0) ≡ total n (λ i. height m (valuesOf m w a i))
-          → (j t : ℕ) → j < n → getD degrees k 0 + spent ≤ t → t < n * w → getD u (place n (n * w) k j t) 0 ≡ 0
-      u-short k spent lk nonzero lost j t lj from lt =
-          inv .holding .U .at k j t lk lj lt ∙ ap (λ (x : Zp p). x .val) zero ∙ field-zero p P
+      -- where row k of the result is not zero, row k of U has no term from its height on and what all degrees have lost since a, less
+      -- what every row of a has
+      pub u-short : (k reach spent least : ℕ) → k < n → 0 < valuesOf m w r k → ((i : ℕ) → i < n → least ≤ degreesOf m w a i)
+          → spent + total n (λ i. getD degrees i 0 - 1) ≡ total n (degreesOf m w a) → reach + least ≡ getD degrees k 0 + spent
+          → (j t : ℕ) → j < n → reach ≤ t → t < n * w → getD u (place n (n * w) k j t) 0 ≡ 0
+      u-short k reach spent least lk nonzero all lost reach-is j t lj from lt =
+          inv .holding .U .at k j t lk lj lt ∙ ap (λ (x : Zp p). x .val) (inv .narrow .u-bound k j lk lj t (omega (arith, from, ends))) ∙ field-zero p P
         where
-          before : total n (λ i. height m (valuesOf m w a i)) ≡ total n (λ i. height m (value K m w (A i)))
-          before = total-same n _ _ (λ i li. ap (height m) (sym (value-held p P n m w first (input .columns) i li)))
+          before : (i : ℕ) → i < n → degreesOf m w a i ≡ D K n m w A i
+          before i li = ap (λ (x : ℕ). height m x - 1) (sym (value-held p P n m w first (input .columns) i li))
 
-          now : total n (λ i. getD degrees i 0) ≡ total n (λ i. height m (value K m w (R i)))
-          now = total-same n _ _ height-is
+          now : (i : ℕ) → i < n → getD degrees i 0 - 1 ≡ D K n m w R i
+          now i li = ap (λ (x : ℕ). x - 1) (height-is i li)
 
-          zero : inv .t .U k j t ≡ K .ring .𝟘
-          zero = case-le 1 (height m (value K m w (A j)))
-              (λ positive. inv .narrow .bound k j lk lj positive t (omega (arith, before, now, height-is k lk)))
-              (λ none. ap (λ (f : ℕ → Zp p). f t) (inv .narrow .none k j lk lj (omega arith) (height-pos m _ (omega (arith, agree k lk)))) ∙ zero-at (K .ring) t)
+          spent-is : spent ≡ spent-since K n m w A (inv .t)
+          spent-is = omega (arith, lost, total-same n _ _ before, total-same n _ _ now)
+
+          cut : (h s d reach least : ℕ) → 0 < h → least ≤ d → reach + least ≡ h + s → suc (h - 1 + s) - d ≤ reach
+          cut h s d reach least some le is = omega arith
+
+          ends : suc (D K n m w R k + spent-since K n m w A (inv .t)) - D K n m w A j ≤ reach
+          ends = rw (← spent-is, ← now k lk, ← before j lj) (cut (getD degrees k 0) spent (degreesOf m w a j) reach least
+              (omega (arith, height-is k lk, height-pos m (value K m w (R k)) (omega (arith, agree k lk)))) (all j lj) reach-is)
 
       -- column l of V has no term from w - D on, for the pivot degree D of row l of the result
       pub v-short : (l : ℕ) → l < n
           → (i t : ℕ) → i < n → w + 1 - getD degrees l 0 ≤ t → t < w → getD v (place n w i l t) 0 ≡ 0
       v-short l ll i t li from lt =
           inv .holding .V′ .at i l t li ll lt
-          ∙ ap (λ (x : Zp p). x .val) (inv .narrow .v-bound i l li ll t (omega (arith, height-is l ll)))
+          ∙ ap (λ (x : Zp p). x .val) (inv .narrow .v-bound i l li ll t (omega (arith, height-is l ll, degrees-most K n m w A bounded i li, input .places)))
           ∙ field-zero p P
 
 -- U has room for a row so shifted that it is as high as row l
-pub u-room : (n m w : ℕ) (a degrees : List ℕ) (l spent : ℕ) → l < n
-    → spent + total n (λ i. getD degrees i 0) ≡ total n (λ i. height m (valuesOf m w a i)) → getD degrees l 0 + spent ≤ n * w
-u-room n m w a degrees l spent ll lost =
-    omega (arith, total-one n l (λ i. getD degrees i 0) ll, total-bound n w _ (λ i _. height-most m w a i))
+pub u-room : (n m w : ℕ) (a degrees : List ℕ) (l spent : ℕ) → l < n → 0 < w
+    → spent + total n (λ i. getD degrees i 0 - 1) ≡ total n (degreesOf m w a) → getD degrees l 0 + spent ≤ n * w
+u-room n m w a degrees l spent ll places lost = omega (
+  arith,
+  total-one n l (λ i. getD degrees i 0 - 1) ll,
+  total-bound n (w - 1) (degreesOf m w a) (λ i _. omega (arith, height-most m w a i)),
+  widths w places,
+)
+  where
+    widths : (w : ℕ) → 0 < w → n * (w - 1) + n ≡ n * w
+    widths zero some = absurd (omega arith)
+    widths (suc w) some = let e : suc w - 1 ≡ w = omega arith in rw e (sym (N.mul-suc n w))

@@ -31,7 +31,7 @@ use Rattle.reduction.specs.Step.{Carried, leading, factor, subtract, reduce-row
 use Rattle.reduction.proofs.Index.{index-some, height-some, height-bound, clash-first, clash-second}
 use Rattle.reduction.proofs.Pivot.{value-bound, value-lead}
 use Rattle.reduction.proofs.Lowering.{Lowered, lowered}
-use Rattle.reduction.proofs.Degrees.{Narrow, narrow-step, u-degrees, v-degrees}
+use Rattle.reduction.proofs.Degrees.{Narrow, narrow-step, u-fits, v-degrees}
 use Rattle.pivots.specs.Pivot.{valueOf, rowOf, Pivots}
 use Rattle.matrix.specs.Holding.{Holding}
 use Rattle.matrix.specs.Move.{leadingAt, Factor, Moved}
@@ -127,7 +127,7 @@ module _ (p : ℕ) (P : Prime p) (n m w : ℕ) (columns : 0 < m) where
     move-holding = record {
       R = step-held r indices degrees (t .R) (h .R) pivots l k x (d .e) (d .c) (d .f) (d .factor) (d .r-move);
       U = row-moved r indices degrees (t .R) (h .R) pivots l k x (d .e) (d .c) (d .f) (d .factor) n (n * w) (h .U) (d .u-move)
-          (λ i li j lj. u-degrees K n m w A _ ab places move-narrow i j li lj);
+          (λ i li j lj. u-fits K n m w A _ ab move-narrow places i j li lj);
       V′ = column-moved r indices degrees (t .R) (h .R) pivots l k x (d .e) (d .c) (d .f) (d .factor) (h .V′) (d .v-move)
-          (λ i li j lj. v-degrees K n m w A _ move-narrow i j li lj);
+          (λ i li j lj. v-degrees K n m w A _ ab move-narrow places i j li lj);
     }

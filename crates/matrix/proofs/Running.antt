@@ -5,6 +5,7 @@ use mathlib.Core.List.{List}
 use Prim.Native.Nat.{ℕ, zero, suc, _+_, _-_, _*_, _≤_, _<_}
 use native.Mathlib.Nat as N
 use native.Mathlib.Omega.{arith}
+use native.Mathlib.Decide.{ℕ-discrete}
 use lib.ListN.{length, getD, set, length-set}
 use lib.Seq.{getD-set-same, getD-set-other}
 use Rattle.algebra.specs.Prime.{Prime}
@@ -17,16 +18,17 @@ use Rattle.buffers.proofs.Held.{held-coefficients}
 use Rattle.rows.specs.Asked.{Short}
 use Rattle.reduction.specs.Pivot.{index, height}
 use Rattle.reduction.specs.Pair.{Pair, NoPair, target, Reducing}
-use Rattle.reduction.proofs.Index.{clash-second}
+use Rattle.reduction.proofs.Index.{height-pos, clash-second}
 use Rattle.pivots.specs.Columns.{Indices}
 use Rattle.pivots.specs.Pair.{NextAsked, IsNextOf}
-use Rattle.pivots.specs.Pivot.{Pivots}
+use Rattle.pivots.specs.Pivot.{Pivots, leastDegree}
 use Rattle.pivots.specs.declared.pair.Next.the-variants.{Nothing, Rows}
 use Rattle.matrix.specs.Move.{Moved}
 use Rattle.matrix.specs.Asked.{AdvanceAsked, Advanced}
 use Rattle.matrix.specs.Running.{RunAsked, Ran}
 use Rattle.matrix.proofs.Following.{renew-asked}
-use Rattle.matrix.proofs.Loop.{valuesOf, values-total, Input, LoopAt, loop-reducing, loop-start, loop-last, loop-turn, loop-falls, u-short, u-room, v-short}
+use Rattle.pivots.proofs.LeastDegree.{least-below}
+use Rattle.matrix.proofs.Loop.{valuesOf, degreesOf, values-total, Input, LoopAt, loop-reducing, loop-start, loop-last, loop-turn, loop-falls, u-short, u-room, v-short}
 use Rattle.matrix.proofs.RowsOf.{height-under, list-short, plan-asked, size-after, pivots-after}
 
 -- a pivot index is a column or 0
@@ -48,27 +50,32 @@ pub record SameLengths (r₀ u₀ v₀ spare₀ index₀ degree₀ r u v spare i
 pub record Running (p n m w : ℕ) (a u₀ v₀ spare₀ index₀ degree₀ r u v spare indices degrees : List ℕ) (count spent : ℕ) : Type 0 where
   pub lengths : SameLengths a u₀ v₀ spare₀ index₀ degree₀ r u v spare indices degrees
   pub pivots : Pivots n m (valuesOf m w r) indices degrees
-  pub lost : spent + total n (λ i. getD degrees i 0) ≡ total n (λ i. height m (valuesOf m w a i))
+  pub lost : spent + total n (λ i. getD degrees i 0 - 1) ≡ total n (degreesOf m w a)
+  pub above : (i : ℕ) → i < n → leastDegree w n degree₀ ≤ getD degrees i 0 - 1 + spent
   pub at : (P : Prime p) (some : 0 < p) → LoopAt p P some n m w a r u v count
   pub budget : count + total n (valuesOf m w r) ≤ total n (valuesOf m w a)
 
-module _ (p reciprocal n m w : ℕ) (a u₀ v₀ spare₀ index₀ degree₀ : List ℕ) (asked : RunAsked p reciprocal n m w a u₀ v₀ spare₀ index₀ degree₀) where
+module _ {p reciprocal n m w : ℕ} {a u₀ v₀ spare₀ index₀ degree₀ : List ℕ} (asked : RunAsked p reciprocal n m w a u₀ v₀ spare₀ index₀ degree₀) where
   input : Input p n m w a
   input = record { columns = asked .columns; places = asked .places; size = asked .size; residues = asked .residues }
 
   positive : 0 < p
   positive = omega (arith, asked .prime .two)
 
+  first-degrees : (i : ℕ) → i < n → getD degree₀ i 0 - 1 ≡ degreesOf m w a i
+  first-degrees i l = ap (λ (h : ℕ). h - 1) (asked .pivots .row i l .degree-is)
+
   pub running-start : Running p n m w a u₀ v₀ spare₀ index₀ degree₀ a u₀ v₀ spare₀ index₀ degree₀ 0 0
   running-start = record {
     lengths = record { r-same = refl; u-same = refl; v-same = refl; spare-same = refl; index-same = refl; degree-same = refl };
     pivots = asked .pivots;
-    lost = omega (arith, total-same n (λ i. getD degree₀ i 0) (λ i. height m (valuesOf m w a i)) (λ i l. asked .pivots .row i l .degree-is));
+    lost = omega (arith, total-same n (λ i. getD degree₀ i 0 - 1) (degreesOf m w a) first-degrees);
+    above = λ i l. omega (arith, least-below w n degree₀ i l);
     at = λ P some. loop-start input P some (asked .u-one) (asked .v-one);
     budget = omega arith;
   }
 
-  module _ (r u v spare indices degrees : List ℕ) (count spent : ℕ)
+  module _ {r u v spare indices degrees : List ℕ} {count spent : ℕ}
       (inv : Running p n m w a u₀ v₀ spare₀ index₀ degree₀ r u v spare indices degrees count spent) where
     here : LoopAt p (asked .prime) positive n m w a r u v count
     here = inv .at (asked .prime) positive
@@ -98,69 +105,108 @@ module _ (p reciprocal n m w : ℕ) (a u₀ v₀ spare₀ index₀ degree₀ : L
       indices-are = λ i l. inv .pivots .row i l .index-is;
     }
 
-    -- rows l and k are to be reduced
-    module _ (l k : ℕ) (next : IsNextOf n m (valuesOf m w r) (Rows l k)) where
-      reducing : Reducing n m (valuesOf m w r) l k
-      reducing = loop-reducing (next .0) (next .1)
+-- a turn of the loop: rows l and k are to be reduced
+pub record Turn (p reciprocal n m w : ℕ) (a u₀ v₀ spare₀ index₀ degree₀ r u v spare indices degrees : List ℕ) (count spent l k : ℕ) : Type 0 where
+  pub asked : RunAsked p reciprocal n m w a u₀ v₀ spare₀ index₀ degree₀
+  pub inv : Running p n m w a u₀ v₀ spare₀ index₀ degree₀ r u v spare indices degrees count spent
+  pub next : IsNextOf n m (valuesOf m w r) (Rows l k)
 
-      k-some : 0 < valuesOf m w r k
-      k-some = clash-second (reducing .clash)
+module _ {p reciprocal n m w : ℕ} {a u₀ v₀ spare₀ index₀ degree₀ r u v spare indices degrees : List ℕ} {count spent l k : ℕ}
+    (turn : Turn p reciprocal n m w a u₀ v₀ spare₀ index₀ degree₀ r u v spare indices degrees count spent l k) where
+  open Turn turn using (asked, inv, next)
 
-      pub l-fits : l < n
-      l-fits = reducing .l-fits
+  reducing : Reducing n m (valuesOf m w r) l k
+  reducing = loop-reducing (next .0) (next .1)
 
-      pub advance-asked : AdvanceAsked p reciprocal n m w l k spent r u v spare indices degrees
-      advance-asked = record {
-        plan = plan-asked n m w (asked .columns) r size indices degrees (inv .pivots) (asked .ready) (asked .prime) (held-coefficients (by-rows n m w) p (here .holding .R)) index-room degree-room reducing;
-        columns = asked .columns;
-        l-fits = l-fits;
-        k-fits = reducing .k-fits;
-        differ = reducing .apart;
-        u-size = here .holding .U .size;
-        v-size = here .holding .V′ .size;
-        u-residues = held-coefficients (by-rows n n (n * w)) p (here .holding .U);
-        v-residues = held-coefficients (by-rows n n w) p (here .holding .V′);
-        l-short = list-short n m w (asked .columns) r size indices degrees (inv .pivots) l l-fits;
-        k-short = list-short n m w (asked .columns) r size indices degrees (inv .pivots) k (reducing .k-fits);
-        u-short = record { zero = u-short input (asked .prime) positive here (inv .pivots) k spent (reducing .k-fits) k-some (inv .lost) };
-        u-room = u-room n m w a degrees l spent l-fits (inv .lost);
-        v-short = record { zero = v-short input (asked .prime) positive here (inv .pivots) l l-fits };
-        row-room = omega (arith, inv .lengths .spare-same, asked .row-room);
-        cell-room = omega (arith, inv .lengths .spare-same, asked .cell-room);
-      }
+  l-fits : l < n
+  l-fits = reducing .l-fits
 
-      -- after the step
-      module _ (r′ u′ v′ indices′ degrees′ : List ℕ) (d : Advanced p n m w l k r u v indices degrees r′ u′ v′ indices′ degrees′) where
-        after : Pivots n m (valuesOf m w r′) indices′ degrees′
-        after = pivots-after p n m w _ _ l k r r′ size l-fits (d .moved .r-move) indices degrees indices′ degrees′ index-room degree-room (inv .pivots) (d .renewed)
+  k-fits : k < n
+  k-fits = reducing .k-fits
 
-        -- the height of row l has not grown
-        pub lower : getD degrees′ l 0 ≤ getD degrees l 0
-        lower =
-            let h = height-under n m w (asked .columns) r′ (size-after p n m w _ _ l k r r′ size l-fits (d .moved .r-move)) l (getD degrees l 0) l-fits
-            (renew-asked _ _ _ _ _ _ _ _ _ _ _ _ _ _ advance-asked _ _ _ (d .moved .factor) r′ (d .moved .r-move) .short) in
-            omega (arith, after .row l l-fits .degree-is)
+  -- the pivots of both rows are in the lists
+  pub rows-fit : (l < length degrees) × (k < length degrees) × (l < 8) × (k < 8)
+  rows-fit =
+      let room = degree-room asked inv in
+      let few = asked .rows-most in
+      (omega (arith, l-fits), omega (arith, k-fits), omega (arith, l-fits), omega (arith, k-fits))
 
-        pub falls : total n (valuesOf m w r′) < total n (valuesOf m w r)
-        falls = loop-falls input (asked .prime) positive here (inv .pivots) (next .0) (next .1) (d .moved)
+  -- what row k of U has at most fits
+  pub reach-fits : (leastDegree w n degree₀ ≤ getD degrees k 0 + spent) × (getD degrees k 0 ≤ getD degrees l 0) × (getD degrees l 0 + spent ≤ n * w) × (n * w ≤ 512)
+  reach-fits = (
+    omega (arith, inv .above k k-fits),
+    omega (arith, reducing .degrees, inv .pivots .row l l-fits .degree-is, inv .pivots .row k k-fits .degree-is),
+    u-room n m w a degrees l spent l-fits (asked .places) (inv .lost),
+    asked .cell-few,
+  )
 
-        change : total n (λ i. getD degrees′ i 0) + getD degrees l 0 ≡ total n (λ i. getD degrees i 0) + getD degrees′ l 0
-        change = total-change n l (λ i. getD degrees′ i 0) (λ i. getD degrees i 0) l-fits
-            (λ i li ne. ap (λ (t : List ℕ). getD t i 0) (d .renewed .degrees-are) ∙ getD-set-other degrees l i _ 0 ne)
+  pub advance-asked : AdvanceAsked p reciprocal n m w l k (getD degrees k 0 + spent - leastDegree w n degree₀) r u v spare indices degrees
+  advance-asked = record {
+    plan = plan-asked n m w (asked .columns) r (size asked inv) indices degrees (inv .pivots) (asked .ready) (asked .prime) (held-coefficients (by-rows n m w) p ((here asked inv) .holding .R)) (index-room asked inv) (degree-room asked inv) reducing;
+    columns = asked .columns;
+    l-fits = l-fits;
+    k-fits = k-fits;
+    differ = reducing .apart;
+    u-size = (here asked inv) .holding .U .size;
+    v-size = (here asked inv) .holding .V′ .size;
+    u-residues = held-coefficients (by-rows n n (n * w)) p ((here asked inv) .holding .U);
+    v-residues = held-coefficients (by-rows n n w) p ((here asked inv) .holding .V′);
+    l-short = list-short n m w (asked .columns) r (size asked inv) indices degrees (inv .pivots) l l-fits;
+    k-short = list-short n m w (asked .columns) r (size asked inv) indices degrees (inv .pivots) k (reducing .k-fits);
+    u-short = record {
+      zero = u-short (input asked) (asked .prime) (positive asked) (here asked inv) (inv .pivots) k _ spent (leastDegree w n degree₀) k-fits (clash-second (reducing .clash))
+          (λ i li. omega (arith, least-below w n degree₀ i li, first-degrees asked i li)) (inv .lost) (omega (arith, reach-fits));
+    };
+    u-room = omega (arith, reach-fits);
+    v-short = record { zero = v-short (input asked) (asked .prime) (positive asked) (here asked inv) (inv .pivots) l l-fits };
+    row-room = omega (arith, inv .lengths .spare-same, asked .row-room);
+    cell-room = omega (arith, inv .lengths .spare-same, asked .cell-room);
+  }
 
-        pub running-on : (spare′ : List ℕ) → length spare′ ≡ length spare
-            → Running p n m w a u₀ v₀ spare₀ index₀ degree₀ r′ u′ v′ spare′ indices′ degrees′ (count + 1) (spent + (getD degrees l 0 - getD degrees′ l 0))
-        running-on spare′ same = record {
-          lengths = record {
-            r-same = d .moved .r-move .size ∙ inv .lengths .r-same;
-            u-same = d .moved .u-move .size ∙ inv .lengths .u-same;
-            v-same = d .moved .v-move .size ∙ inv .lengths .v-same;
-            spare-same = same ∙ inv .lengths .spare-same;
-            index-same = ap length (d .renewed .indices-are) ∙ length-set indices l _ ∙ inv .lengths .index-same;
-            degree-same = ap length (d .renewed .degrees-are) ∙ length-set degrees l _ ∙ inv .lengths .degree-same;
-          };
-          pivots = after;
-          lost = omega (arith, inv .lost, change, lower);
-          at = λ P some. loop-turn input P some (inv .at P some) (inv .pivots) (next .0) (next .1) (d .moved);
-          budget = omega (arith, inv .budget, falls);
-        }
+  -- after the step
+  module _ (r′ u′ v′ indices′ degrees′ : List ℕ) (d : Advanced p n m w l k r u v indices degrees r′ u′ v′ indices′ degrees′) where
+    after : Pivots n m (valuesOf m w r′) indices′ degrees′
+    after = pivots-after p n m w _ _ l k r r′ (size asked inv) l-fits (d .moved .r-move) indices degrees indices′ degrees′ (index-room asked inv) (degree-room asked inv) (inv .pivots) (d .renewed)
+
+    same-degrees : length degrees′ ≡ length degrees
+    same-degrees = ap length (d .renewed .degrees-are) ∙ length-set degrees l _
+
+    pub after-fits : l < length degrees′
+    after-fits = omega (arith, rows-fit, same-degrees)
+
+    -- the height of row l has not grown
+    pub lower : getD degrees′ l 0 ≤ getD degrees l 0
+    lower =
+        let h = height-under n m w (asked .columns) r′ (size-after p n m w _ _ l k r r′ (size asked inv) l-fits (d .moved .r-move)) l (getD degrees l 0) l-fits
+        (renew-asked _ _ _ _ _ _ _ _ _ _ _ _ _ _ advance-asked _ _ _ (d .moved .factor) r′ (d .moved .r-move) .short) in
+        omega (arith, after .row l l-fits .degree-is)
+
+    pub falls : total n (valuesOf m w r′) < total n (valuesOf m w r)
+    falls = loop-falls (input asked) (asked .prime) (positive asked) (here asked inv) (inv .pivots) (next .0) (next .1) (d .moved)
+
+    others : (i : ℕ) → i ≢ l → getD degrees′ i 0 ≡ getD degrees i 0
+    others i ne = ap (λ (t : List ℕ). getD t i 0) (d .renewed .degrees-are) ∙ getD-set-other degrees l i _ 0 ne
+
+    change : total n (λ i. getD degrees′ i 0 - 1) + (getD degrees l 0 - 1) ≡ total n (λ i. getD degrees i 0 - 1) + (getD degrees′ l 0 - 1)
+    change = total-change n l (λ i. getD degrees′ i 0 - 1) (λ i. getD degrees i 0 - 1) l-fits (λ i li ne. ap (λ (h : ℕ). h - 1) (others i ne))
+
+    pub running-on : (spare′ : List ℕ) → length spare′ ≡ length spare → (high low : ℕ) → high ≡ getD degrees l 0 - 1 → low ≡ getD degrees′ l 0 - 1
+        → Running p n m w a u₀ v₀ spare₀ index₀ degree₀ r′ u′ v′ spare′ indices′ degrees′ (count + 1) (spent + (high - low))
+    running-on spare′ same high low high-is low-is = record {
+      lengths = record {
+        r-same = d .moved .r-move .size ∙ inv .lengths .r-same;
+        u-same = d .moved .u-move .size ∙ inv .lengths .u-same;
+        v-same = d .moved .v-move .size ∙ inv .lengths .v-same;
+        spare-same = same ∙ inv .lengths .spare-same;
+        index-same = ap length (d .renewed .indices-are) ∙ length-set indices l _ ∙ inv .lengths .index-same;
+        degree-same = same-degrees ∙ inv .lengths .degree-same;
+      };
+      pivots = after;
+      lost = omega (arith, inv .lost, change, lower, high-is, low-is);
+      above = λ i li. elim (ℕ-discrete i l) [
+        | yes e ↦ rw e (omega (arith, inv .above l l-fits, lower, high-is, low-is))
+        | no ne ↦ omega (arith, inv .above i li, others i ne)
+      ];
+      at = λ P some. loop-turn (input asked) P some (inv .at P some) (inv .pivots) (next .0) (next .1) (d .moved);
+      budget = omega (arith, inv .budget, falls);
+    }

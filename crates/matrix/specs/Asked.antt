@@ -66,8 +66,8 @@ pub record Renewed (m w l : ℕ) (r indices degrees indices′ degrees′ : List
   pub indices-are : indices′ ≡ set indices l (index m (valueOf m w (rowOf m w r l)))
   pub degrees-are : degrees′ ≡ set degrees l (height m (valueOf m w (rowOf m w r l)))
 
--- three matrices with the pivots of the first, of which rows l and k are to be reduced; `spent` is what all heights have lost
-pub record AdvanceAsked (p reciprocal n m w l k spent : ℕ) (r u v spare indices degrees : List ℕ) : Type 0 where
+-- three matrices with the pivots of the first, of which rows l and k are to be reduced; row k of U has no term from `reach` on
+pub record AdvanceAsked (p reciprocal n m w l k reach : ℕ) (r u v spare indices degrees : List ℕ) : Type 0 where
   pub plan : PlanAsked p reciprocal m w l k r indices degrees
   pub columns : 0 < m
   pub l-fits : l < n
@@ -79,8 +79,8 @@ pub record AdvanceAsked (p reciprocal n m w l k spent : ℕ) (r u v spare indice
   pub v-residues : Coefficients p v
   pub l-short : Short w (getD degrees l 0) m (place m w l) r
   pub k-short : Short w (getD degrees k 0) m (place m w k) r
-  pub u-short : Short (n * w) (getD degrees k 0 + spent) n (place n (n * w) k) u
-  pub u-room : getD degrees l 0 + spent ≤ n * w
+  pub u-short : Short (n * w) reach n (place n (n * w) k) u
+  pub u-room : getD degrees l 0 - getD degrees k 0 + reach ≤ n * w
   pub v-short : Short w (w + 1 - getD degrees l 0) n (λ i. place n w i l) v
   pub row-room : m * w ≤ length spare
   pub cell-room : n * w ≤ length spare

@@ -39,6 +39,8 @@ pub record RunAsked (p reciprocal n m w : ℕ) (r u v spare indices degrees : Li
   pub columns : 0 < m
   pub columns-most : m ≤ 8
   pub places : 0 < w
+  pub rows-most : n ≤ 8
+  pub cell-few : n * w ≤ 512
   pub size : length r ≡ n * (m * w)
   pub small : n * (m * w) ≤ 4096
   pub residues : Coefficients p r

@@ -5,6 +5,7 @@ use crate::listing;
 use crate::scratch;
 use crate::stepping;
 use pivots::Next;
+use pivots::PivotDegree;
 use pivots::pivot;
 use poly::Modulus;
 use poly::polynomial;
@@ -21,6 +22,8 @@ pub enum Answer {
 }
 
 // Steps until none applies, and their number. The pivots of all rows are kept; a step finds those of its row l anew.
+// `spent` is what the pivot degrees have lost together since the start: no cell of row k of U has a degree above that of
+// row k and `spent`, less the least pivot degree of the input.
 fn run(
     r: &mut [u16],
     u: &mut [u16],
@@ -36,15 +39,17 @@ fn run(
     requires { ⌜ RunAsked (md .p) (md .reciprocal) n m w (now r) (now u) (now v) (now spare) (now index) (now degree) ⌝ }
     ensures { λ count. ⌜ Ran (md .p) n m w count (now (r .entry)) (now (r .exit)) (now (u .exit)) (now (v .exit)) (now (index .exit)) ⌝ }
 {
+    let least = pivot::least(degree, n, w);
     let mut count: u64 = 0;
     let mut spent: usize = 0;
     loop {
         let Next::Rows { l, k } = pivots::next_rows(index, degree, n) else {
             return count;
         };
-        let before = degree[l];
-        stepping::advance(r, u, v, spare, index, degree, l, k, spent, n, m, w, md);
-        spent += before - degree[l];
+        let before = PivotDegree(degree[l]).or_zero();
+        let reach = degree[k] + spent - least;
+        stepping::advance(r, u, v, spare, index, degree, l, k, reach, n, m, w, md);
+        spent += before - PivotDegree(degree[l]).or_zero();
         count += 1;
     }
 }

@@ -6,6 +6,8 @@ ghost use Rattle.buffers.specs.Place.{place};
 ghost use Rattle.matrix.specs.Asked.{LeadingAsked, DivideAsked, Divided, PlanAsked, RenewAsked, Renewed, AdvanceAsked, Advanced};
 ghost use Rattle.matrix.specs.Move.{Factor};
 use pivots::Pivot;
+use pivots::PivotDegree;
+use pivots::PivotIndex;
 use poly::Modulus;
 use poly::Residue;
 
@@ -16,14 +18,14 @@ pub struct Move {
     pub f: Residue,
 }
 
-// The leading coefficient of the pivot of row i, whose pivot index is x and whose degree is h - 1.
-fn leading(r: &[u16], i: usize, x: usize, h: usize, m: usize, w: usize) -> Residue
-    requires { ⌜ LeadingAsked m w i x h (now r) ⌝ }
-    ensures { λ c. ⌜ c .0 ≡ getD (now (r .entry)) (place m w i (x - 1) (h - 1)) 0 ⌝ }
+// The leading coefficient of the pivot of row i.
+fn leading(r: &[u16], i: usize, x: PivotIndex, h: PivotDegree, m: usize, w: usize) -> Residue
+    requires { ⌜ LeadingAsked m w i (x .0) (h .0) (now r) ⌝ }
+    ensures { λ c. ⌜ c .0 ≡ getD (now (r .entry)) (place m w i (x .0 - 1) (h .0 - 1)) 0 ⌝ }
 {
     let s = m * w;
-    let j = x - 1;
-    let t = h - 1;
+    let j = x.0 - 1;
+    let t = h.0 - 1;
     Residue(r[i * s + (j * w + t)])
 }
 
@@ -53,8 +55,8 @@ pub fn plan(
 {
     let high = degree[l];
     let low = degree[k];
-    let a = leading(r, l, index[l], high, m, w);
-    let b = leading(r, k, index[k], low, m, w);
+    let a = leading(r, l, PivotIndex(index[l]), PivotDegree(high), m, w);
+    let b = leading(r, k, PivotIndex(index[k]), PivotDegree(low), m, w);
     divide(a, b, high - low, md)
 }
 
@@ -79,8 +81,8 @@ fn renew(
     degree[l] = x.degree.0;
 }
 
-// One step on rows l and k. The degrees tell which places of U and V can be other than zero: row k of U ends with the
-// height of row k and what all heights have lost since the start, column l of V with d less the degree of row l.
+// One step on rows l and k. The degrees tell which places of U and V can be other than zero: the cells of row k of U have
+// no more than `reach` of them, and those of column l of V end with d less the degree of row l.
 pub fn advance(
     r: &mut [u16],
     u: &mut [u16],
@@ -90,20 +92,20 @@ pub fn advance(
     degree: &mut [usize],
     l: usize,
     k: usize,
-    spent: usize,
+    reach: usize,
     n: usize,
     m: usize,
     w: usize,
     md: Modulus,
 )
-    requires { ⌜ AdvanceAsked (md .p) (md .reciprocal) n m w l k spent (now r) (now u) (now v) (now spare) (now index) (now degree) ⌝ }
+    requires { ⌜ AdvanceAsked (md .p) (md .reciprocal) n m w l k reach (now r) (now u) (now v) (now spare) (now index) (now degree) ⌝ }
     ensures { λ _. ⌜ Advanced (md .p) n m w l k (now (r .entry)) (now (u .entry)) (now (v .entry)) (now (index .entry)) (now (degree .entry)) (now (r .exit)) (now (u .exit)) (now (v .exit)) (now (index .exit)) (now (degree .exit)) ⌝ }
 {
     let x = plan(r, index, degree, l, k, m, w, md);
     let high = degree[l];
     let low = degree[k];
     rows::add_row(r, spare, l, k, m, w, low, x.f, x.e, md);
-    rows::add_row_by_cells(u, spare, n, n * w, l, k, low + spent, x.f, x.e, md);
+    rows::add_row_by_cells(u, spare, n, n * w, l, k, reach, x.f, x.e, md);
     rows::add_column(v, spare, n, w, k, l, w + 1 - high, x.c, x.e, md);
     renew(r, index, degree, l, high, m, w);
 }

@@ -1,5 +1,6 @@
 pub mod Grid
 pub mod Search
+pub mod LeastDegree
 pub mod Bits
 pub mod Choice
 pub mod Next

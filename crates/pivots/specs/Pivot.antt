@@ -1,7 +1,7 @@
 -- Pivots of rows in lists: m cells of w places each.
 use mathlib.Core.Path.{_≡_}
 use mathlib.Core.List.{List}
-use Prim.Native.Nat.{ℕ, _*_, _+_, _/_, _%_, _≤_, _<_}
+use Prim.Native.Nat.{ℕ, zero, suc, _*_, _+_, _-_, _/_, _%_, _≤_, _<_, min}
 use lib.ListN.{length, getD}
 use Rattle.lists.specs.Last.{lastNonzero}
 use Rattle.lists.specs.Part.{part}
@@ -45,3 +45,8 @@ pub record MatrixAsked (n m w : ℕ) (r index degree : List ℕ) : Type 0 where
 -- the pivots of n rows of values v
 pub record Pivots (n m : ℕ) (v : ℕ → ℕ) (indices degrees : List ℕ) : Type 0 where
   pub row : (i : ℕ) → i < n → IsPivotOf m (v i) (getD indices i 0) (getD degrees i 0)
+
+-- the least of the pivot degrees of n rows, that of a zero row counting as 0, or w where that is less
+unfoldable pub leastDegree : ℕ → ℕ → List ℕ → ℕ
+leastDegree w zero degrees = w
+leastDegree w (suc n) degrees = min (leastDegree w n degrees) (getD degrees n 0 - 1)

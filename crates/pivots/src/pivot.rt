@@ -1,16 +1,48 @@
 // The pivot of a row: the rightmost entry of greatest degree. A column number is never compared with a degree, so that
 // each has a type of its own.
 ghost use mathlib.Core.Path.{_≡_};
-ghost use Prim.Native.Nat.{_+_, _*_, _<_, _≤_};
+ghost use Prim.Native.Nat.{_+_, _*_, _-_, _<_, _≤_, min};
 ghost use lib.ListN.{length, getD};
 ghost use Rattle.lists.specs.Last.{lastNonzero};
-ghost use Rattle.pivots.specs.Pivot.{Line, RowAsked, IsPivotOf, valueOf, rowOf, MatrixAsked, Pivots};
+ghost use Rattle.pivots.specs.Pivot.{Line, RowAsked, IsPivotOf, valueOf, rowOf, MatrixAsked, Pivots, leastDegree};
 
 // The column of the pivot, counted from 1; 0 for a zero row.
 pub struct PivotIndex(pub usize);
 
 // The degree of the pivot and 1 more, so that a zero row, of degree -1, has 0.
 pub struct PivotDegree(pub usize);
+
+impl PivotDegree {
+    // The degree, where that of a zero row counts as 0.
+    pub fn or_zero(self) -> usize
+        ensures { λ d. ⌜ d ≡ self .0 - 1 ⌝ }
+    {
+        if self.0 == 0 {
+            return 0;
+        }
+        self.0 - 1
+    }
+}
+
+fn lesser(a: usize, b: usize) -> usize
+    ensures { λ r. ⌜ r ≡ min a b ⌝ }
+{
+    if a < b { a } else { b }
+}
+
+// The least of the pivot degrees, or w where that is less.
+pub fn least(degree: &[usize], n: usize, w: usize) -> usize
+    requires { ⌜ n ≤ length (now degree) ⌝ }
+    ensures { λ x. ⌜ x ≡ leastDegree w n (now (degree .entry)) ⌝ }
+{
+    let mut x = w;
+    let mut i = 0;
+    while i < n {
+        x = lesser(x, PivotDegree(degree[i]).or_zero());
+        i += 1;
+    }
+    x
+}
 
 pub struct Pivot {
     pub index: PivotIndex,

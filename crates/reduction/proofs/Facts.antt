@@ -22,7 +22,7 @@ module _ {F : Type 0} (K : Field F) (n m size : ℕ) (A : ℕ → Row F) (column
   reduction-facts count t r =
       let h = runs-ended K n m size A r b in
       let low = runs-lower K n m size A r b in
-      let narrow = runs-narrow K n m size A r b places in
+      let narrow = runs-narrow K n m size A r b in
       record {
         result = runs-steps K n m size r;
         single-steps = sym (steps-single K n m size count (begin (K .ring) A)) ∙ ap (λ u. u .R) (runs-steps K n m size r);
@@ -30,8 +30,8 @@ module _ {F : Type 0} (K : Field F) (n m size : ℕ) (A : ℕ → Row F) (column
         weak-popov = weak-popov-iff K n m size (t .R) (h .bounded) .0 (h .done);
         bounded = h .bounded;
         transformed = h .transformed;
-        u-degrees = u-degrees K n m size A t b places narrow;
-        v-degrees = v-degrees K n m size A t narrow;
+        u-degrees = u-degrees K n m size A t b narrow;
+        v-degrees = v-degrees K n m size A t b narrow places;
         count-state = count-state K n m size r b;
         count-rank = count-rank K n m size r b columns;
         rank-is = rank-is K n m size A t b h low;

@@ -1,6 +1,6 @@
 -- What is proved of the reduction of a matrix A of n rows and m columns, its polynomials having `size` = d + 1 places.
 use mathlib.Core.Path.{_≡_}
-use Prim.Native.Nat.{ℕ, _+_, _*_, _≤_, _<_}
+use Prim.Native.Nat.{ℕ, suc, _+_, _-_, _*_, _≤_, _<_}
 use Rattle.algebra.specs.Field.{Field}
 use Rattle.algebra.specs.Polynomial.{Below}
 use Rattle.lattice.specs.Row.{Row}
@@ -24,8 +24,8 @@ pub record ReductionFacts {F : Type 0} (K : Field F) (n m size : ℕ) (A : ℕ �
   pub bounded : AllBounded (K .ring) n m size (t .R)
   -- U·A = R, V·R = A, U·V = V·U = 1
   pub transformed : Transformed (K .ring) n m A (t .R) (t .U) (t .V′)
-  -- "U needs no degree above n(d+1)-1 and V none above d"
-  pub u-degrees : (i j : ℕ) → i < n → j < n → Below (K .ring) (t .U i j) (n * size)
+  -- "U needs no degree above n(d+1)-1 and V none above d": for U the sharp bound (n-1)d
+  pub u-degrees : (i j : ℕ) → i < n → j < n → Below (K .ring) (t .U i j) (suc ((n - 1) * (size - 1)))
   pub v-degrees : (i j : ℕ) → i < n → j < n → Below (K .ring) (t .V′ i j) size
   -- "the count is at most the state of A less the state of R. With rank r the count is at most n·r·(d+1)."
   pub count-state : count + state K n m size (t .R) ≤ state K n m size A

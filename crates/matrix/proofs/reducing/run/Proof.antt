@@ -1,27 +1,45 @@
 use borrow.Author.Needs.{needs}
 use native.Mathlib.Omega.{arith}
+use denote.Ref.{now}
 use Rattle.lists.specs.Total.{total}
 use Rattle.pivots.proofs.Next.{next-is}
+use Rattle.matrix.specs.Running.{RunAsked}
 use Rattle.matrix.proofs.Loop.{valuesOf}
-use Rattle.matrix.proofs.Running.{Running, running-start, next-asked, running-stop, count-fits, l-fits, advance-asked, lower, falls, running-on}
+use Rattle.matrix.proofs.Running.{Running, running-start, next-asked, running-stop, count-fits, Turn, rows-fit, reach-fits, advance-asked, after-fits, lower, falls, running-on}
 use Rattle.matrix.proofs.reducing.run.Statement.{statement}
 use Rattle.matrix.proofs.reducing.run.Tie as tie
 
 abbrev Inv-loop : tie.InvT-loop
-Inv-loop r₀ u₀ v₀ spare₀ index₀ degree₀ n m w md count₀ spent₀ r u v spare index degree count spent =
+Inv-loop r₀ u₀ v₀ spare₀ index₀ degree₀ n m w md least count₀ spent₀ r u v spare index degree count spent =
     Running (md .p) n m w r₀ u₀ v₀ spare₀ index₀ degree₀ r u v spare index degree count spent
 
 abbrev μ-loop : tie.MeasureT-loop
-μ-loop r₀ u₀ v₀ spare₀ index₀ degree₀ n m w md count₀ spent₀ r u v spare index degree count spent =
+μ-loop r₀ u₀ v₀ spare₀ index₀ degree₀ n m w md least count₀ spent₀ r u v spare index degree count spent =
     total n (valuesOf m w r)
 
+-- what is known at the loop's head
+asked : (head : tie.At-loop Inv-loop μ-loop) → let args = head .before .before .before .before .before .before .before .before .before .args in
+    RunAsked (args .md .p) (args .md .reciprocal) (args .n) (args .m) (args .w) (now (args .r)) (now (args .u)) (now (args .v)) (now (args .spare)) (now (args .index)) (now (args .degree))
+asked head = head .before .before .before .before .before .before .before .before .before .pre
+
+-- and in a turn
+turn : (c : tie.After-l Inv-loop μ-loop) → let head = c .before .before .before .before .before in
+    let args = head .before .before .before .before .before .before .before .before .before .args in
+    Turn (args .md .p) (args .md .reciprocal) (args .n) (args .m) (args .w) (now (args .r)) (now (args .u)) (now (args .v)) (now (args .spare)) (now (args .index)) (now (args .degree))
+    (head .loop .r) (head .loop .u) (head .loop .v) (head .loop .spare) (head .loop .index) (head .loop .degree) (head .loop .count) (head .loop .spent)
+    (c .l .given .0 .0) (c .l .given .0 .1 .0)
+turn c =
+    let head = c .before .before .before .before .before in
+    record { asked = asked head; inv = head .loop .inv; next = next-is _ _ _ _ _ (head .loop .inv .pivots) _ _ (c .before .before .next-rows .ensures) (c .l .given .1) }
+
+least-requires : tie.Need-least-requires Inv-loop μ-loop
+least-requires c κs = search needs
+
 loop-holds : tie.Need-loop-holds Inv-loop μ-loop
-loop-holds c = running-start _ _ _ _ _ _ _ _ _ _ _ (c .before .before .before .before .before .before .pre)
+loop-holds c = running-start (c .before .before .before .before .before .before .before .before .pre)
 
 next-rows-requires : tie.Need-next-rows-requires Inv-loop μ-loop
-next-rows-requires c κs =
-    let head = c .before .before in
-    next-asked _ _ _ _ _ _ _ _ _ _ _ (head .before .before .before .before .before .before .before .pre) _ _ _ _ _ _ _ _ (head .loop .inv)
+next-rows-requires c κs = let head = c .before .before in next-asked (asked head) (head .loop .inv)
 
 enum-known-l : tie.Need-enum-known-l Inv-loop μ-loop
 enum-known-l c = search needs
@@ -50,90 +68,57 @@ same-length-6 c = c .before .before .before .before .before .loop .inv .lengths 
 returns : tie.Need-returns Inv-loop μ-loop
 returns c =
     let head = c .before .before .before .before .before in
-    let next = next-is _ _ _ _ _ (head .loop .inv .pivots) _ _ (c .before .before .next-rows .ensures) (c .enum-told .given .1) in
-    running-stop _ _ _ _ _ _ _ _ _ _ _ (head .before .before .before .before .before .before .before .pre) _ _ _ _ _ _ _ _ (head .loop .inv) next
+    running-stop (asked head) (head .loop .inv) (next-is _ _ _ _ _ (head .loop .inv .pivots) _ _ (c .before .before .next-rows .ensures) (c .enum-told .given .1))
 
-mul-before : tie.Need-mul-before Inv-loop μ-loop
-mul-before c =
-    let told = c in
-    let head = told .before .before .before .before .before .before in
-    let start = head .before .before .before .before .before .before .before in
-    let next = next-is _ _ _ _ _ (head .loop .inv .pivots) _ _ (told .before .before .before .next-rows .ensures) (told .before .l .given .1) in
-    omega (arith, l-fits _ _ _ _ _ _ _ _ _ _ _ (start .pre) _ _ _ _ _ _ _ _ (head .loop .inv) _ _ next, start .pre .degree-room, head .loop .inv .lengths .degree-same, start .good)
+mul-reach : tie.Need-mul-reach Inv-loop μ-loop
+mul-reach c = omega (arith, rows-fit (turn (c .before)))
 
-slice-read-before : tie.Need-slice-read-before Inv-loop μ-loop
-slice-read-before c =
-    let told = c .before in
-    let head = told .before .before .before .before .before .before in
-    let start = head .before .before .before .before .before .before .before in
-    let next = next-is _ _ _ _ _ (head .loop .inv .pivots) _ _ (told .before .before .before .next-rows .ensures) (told .before .l .given .1) in
-    omega (arith, l-fits _ _ _ _ _ _ _ _ _ _ _ (start .pre) _ _ _ _ _ _ _ _ (head .loop .inv) _ _ next, start .pre .degree-room, head .loop .inv .lengths .degree-same)
+slice-read-reach : tie.Need-slice-read-reach Inv-loop μ-loop
+slice-read-reach c = rows-fit (turn (c .before .before)) .0
+
+or-zero-requires : tie.Need-or-zero-requires Inv-loop μ-loop
+or-zero-requires c κs = search needs
+
+mul-reach-2 : tie.Need-mul-reach-2 Inv-loop μ-loop
+mul-reach-2 c = omega (arith, rows-fit (turn (c .before .before .before)))
+
+slice-read-reach-2 : tie.Need-slice-read-reach-2 Inv-loop μ-loop
+slice-read-reach-2 c = rows-fit (turn (c .before .before .before .before)) .1
+
+add-reach : tie.Need-add-reach Inv-loop μ-loop
+add-reach c = omega (arith, reach-fits (turn (c .before .before .before .before)))
+
+sub-reach : tie.Need-sub-reach Inv-loop μ-loop
+sub-reach c = omega (arith, reach-fits (turn (c .before .before .before .before)), c .before .before .before .before .before .before .before .before .before .before .least .ensures)
 
 advance-requires : tie.Need-advance-requires Inv-loop μ-loop
-advance-requires c κs =
-    let told = c .before .before .before .before .before .before .before in
-    let head = told .before .before .before .before .before .before in
-    let start = head .before .before .before .before .before .before .before in
-    let next = next-is _ _ _ _ _ (head .loop .inv .pivots) _ _ (told .before .before .before .next-rows .ensures) (told .before .l .given .1) in
-    advance-asked _ _ _ _ _ _ _ _ _ _ _ (start .pre) _ _ _ _ _ _ _ _ (head .loop .inv) _ _ next
+advance-requires c κs = rw (c .before .before .before .before .before .before .before .before .before .before .before .before .before .before .before .before .least .ensures) (advance-asked (turn (c .before .before .before .before .before .before .before .before .before .before)))
 
-mul-spent : tie.Need-mul-spent Inv-loop μ-loop
-mul-spent c =
-    let stepped = c .before .before .before .before .before .before .before .before .before .before .before .before in
-    let told = c .before .before .before .before .before .before .before .before .before .before .before .before .before .before .before .before .before .before .before .before in
-    let head = told .before .before .before .before .before .before in
-    let start = head .before .before .before .before .before .before .before in
-    let next = next-is _ _ _ _ _ (head .loop .inv .pivots) _ _ (told .before .before .before .next-rows .ensures) (told .before .l .given .1) in
-    omega (arith, l-fits _ _ _ _ _ _ _ _ _ _ _ (start .pre) _ _ _ _ _ _ _ _ (head .loop .inv) _ _ next, start .pre .degree-room, head .loop .inv .lengths .degree-same, start .good)
+mul-t27 : tie.Need-mul-t27 Inv-loop μ-loop
+mul-t27 c = omega (arith, rows-fit (turn (c .before .before .before .before .before .before .before .before .before .before .before .before .before .before .before .before .before .before .before .before .before .before .before)))
 
-slice-read-spent : tie.Need-slice-read-spent Inv-loop μ-loop
-slice-read-spent c =
-    let stepped = c .before .before .before .before .before .before .before .before .before .before .before .before .before in
-    let told = c .before .before .before .before .before .before .before .before .before .before .before .before .before .before .before .before .before .before .before .before .before in
-    let head = told .before .before .before .before .before .before in
-    let start = head .before .before .before .before .before .before .before in
-    let next = next-is _ _ _ _ _ (head .loop .inv .pivots) _ _ (told .before .before .before .next-rows .ensures) (told .before .l .given .1) in
-    omega (arith, l-fits _ _ _ _ _ _ _ _ _ _ _ (start .pre) _ _ _ _ _ _ _ _ (head .loop .inv) _ _ next, start .pre .degree-room, head .loop .inv .lengths .degree-same)
+slice-read-t30 : tie.Need-slice-read-t30 Inv-loop μ-loop
+slice-read-t30 c = after-fits (turn (c .before .before .before .before .before .before .before .before .before .before .before .before .before .before .before .before .before .before .before .before .before .before .before .before)) _ _ _ _ _ (c .before .before .before .before .before .before .before .before .before .before .before .before .before .advance .ensures)
+
+or-zero-requires-2 : tie.Need-or-zero-requires-2 Inv-loop μ-loop
+or-zero-requires-2 c κs = search needs
 
 sub-spent : tie.Need-sub-spent Inv-loop μ-loop
-sub-spent c =
-    let stepped = c .before .before .before .before .before .before .before .before .before .before .before .before .before in
-    let told = c .before .before .before .before .before .before .before .before .before .before .before .before .before .before .before .before .before .before .before .before .before in
-    let head = told .before .before .before .before .before .before in
-    let start = head .before .before .before .before .before .before .before in
-    let next = next-is _ _ _ _ _ (head .loop .inv .pivots) _ _ (told .before .before .before .next-rows .ensures) (told .before .l .given .1) in
-    lower _ _ _ _ _ _ _ _ _ _ _ (start .pre) _ _ _ _ _ _ _ _ (head .loop .inv) _ _ next _ _ _ _ _ (stepped .advance .ensures)
+sub-spent c = omega (arith, lower (turn (c .before .before .before .before .before .before .before .before .before .before .before .before .before .before .before .before .before .before .before .before .before .before .before .before .before)) _ _ _ _ _ (c .before .before .before .before .before .before .before .before .before .before .before .before .before .before .advance .ensures), c .or-zero2 .ensures, c .before .before .before .before .before .before .before .before .before .before .before .before .before .before .before .before .before .before .before .before .before .before .or-zero .ensures)
 
 add-spent : tie.Need-add-spent Inv-loop μ-loop
-add-spent c =
-    let stepped = c .before .before .before .before .before .before .before .before .before .before .before .before .before in
-    let told = c .before .before .before .before .before .before .before .before .before .before .before .before .before .before .before .before .before .before .before .before .before in
-    let head = told .before .before .before .before .before .before in
-    let start = head .before .before .before .before .before .before .before in
-    let next = next-is _ _ _ _ _ (head .loop .inv .pivots) _ _ (told .before .before .before .next-rows .ensures) (told .before .l .given .1) in
-    let asked = advance-asked _ _ _ _ _ _ _ _ _ _ _ (start .pre) _ _ _ _ _ _ _ _ (head .loop .inv) _ _ next in
-    omega (arith, asked .u-room, asked .cell-room, start .good)
+add-spent c = omega (arith, reach-fits (turn (c .before .before .before .before .before .before .before .before .before .before .before .before .before .before .before .before .before .before .before .before .before .before .before .before .before)), c .before .before .before .before .before .before .before .before .before .before .before .before .before .before .before .before .before .before .before .before .before .before .or-zero .ensures)
 
 add-count : tie.Need-add-count Inv-loop μ-loop
-add-count c = omega (arith, count-fits _ _ _ _ _ _ _ _ _ _ _ (c .before .before .before .before .before .before .before .before .before .before .before .before .before .before .before .before .before .before .before .before .before .before .before .before .before .before .before .before .before .before .before .before .before .before .pre) _ _ _ _ _ _ _ _ (c .before .before .before .before .before .before .before .before .before .before .before .before .before .before .before .before .before .before .before .before .before .before .before .before .before .before .before .loop .inv))
+add-count c = let t = turn (c .before .before .before .before .before .before .before .before .before .before .before .before .before .before .before .before .before .before .before .before .before .before .before .before .before) in omega (arith, count-fits (t .asked) (t .inv))
 
 loop-less : tie.Need-loop-less Inv-loop μ-loop
-loop-less c =
-    let stepped = c .before .before .before .before .before .before .before .before .before .before .before .before .before in
-    let told = c .before .before .before .before .before .before .before .before .before .before .before .before .before .before .before .before .before .before .before .before .before in
-    let head = told .before .before .before .before .before .before in
-    let start = head .before .before .before .before .before .before .before in
-    let next = next-is _ _ _ _ _ (head .loop .inv .pivots) _ _ (told .before .before .before .next-rows .ensures) (told .before .l .given .1) in
-    falls _ _ _ _ _ _ _ _ _ _ _ (start .pre) _ _ _ _ _ _ _ _ (head .loop .inv) _ _ next _ _ _ _ _ (stepped .advance .ensures)
+loop-less c = falls (turn (c .before .before .before .before .before .before .before .before .before .before .before .before .before .before .before .before .before .before .before .before .before .before .before .before .before)) _ _ _ _ _ (c .before .before .before .before .before .before .before .before .before .before .before .before .before .before .advance .ensures)
 
 loop-again : tie.Need-loop-again Inv-loop μ-loop
 loop-again c =
-    let stepped = c .before .before .before .before .before .before .before .before .before .before .before .before .before in
-    let told = c .before .before .before .before .before .before .before .before .before .before .before .before .before .before .before .before .before .before .before .before .before in
-    let head = told .before .before .before .before .before .before in
-    let start = head .before .before .before .before .before .before .before in
-    let next = next-is _ _ _ _ _ (head .loop .inv .pivots) _ _ (told .before .before .before .next-rows .ensures) (told .before .l .given .1) in
-    running-on _ _ _ _ _ _ _ _ _ _ _ (start .pre) _ _ _ _ _ _ _ _ (head .loop .inv) _ _ next _ _ _ _ _ (stepped .advance .ensures) _ (stepped .advance .kept .1 .1 .1 .0)
+    let stepped = c .before .before .before .before .before .before .before .before .before .before .before .before .before .before in
+    running-on (turn (c .before .before .before .before .before .before .before .before .before .before .before .before .before .before .before .before .before .before .before .before .before .before .before .before .before)) _ _ _ _ _ (stepped .advance .ensures) _ (stepped .advance .kept .1 .1 .1 .0) _ _ (c .before .before .before .before .before .before .before .before .before .before .before .before .before .before .before .before .before .before .before .before .before .before .or-zero .ensures) (c .or-zero2 .ensures)
 
 pub run-spec : {M : Type 1} → statement M
 run-spec =
@@ -141,6 +126,7 @@ run-spec =
     (tie.spec
     Inv-loop
     μ-loop
+    least-requires
     loop-holds
     next-rows-requires
     enum-known-l
@@ -152,11 +138,17 @@ run-spec =
     same-length-5
     same-length-6
     returns
-    mul-before
-    slice-read-before
+    mul-reach
+    slice-read-reach
+    or-zero-requires
+    mul-reach-2
+    slice-read-reach-2
+    add-reach
+    sub-reach
     advance-requires
-    mul-spent
-    slice-read-spent
+    mul-t27
+    slice-read-t30
+    or-zero-requires-2
     sub-spent
     add-spent
     add-count

@@ -11,8 +11,8 @@ use Rattle.matrix.proofs.stepping.advance.Statement.{statement}
 use Rattle.matrix.proofs.stepping.advance.Tie as tie
 
 -- a row of the spare room is longer than a cell of V
-width-small : {p reciprocal n m w l k spent : ℕ} {r u v spare indices degrees : List ℕ}
-    → AdvanceAsked p reciprocal n m w l k spent r u v spare indices degrees → w ≤ length spare
+width-small : {p reciprocal n m w l k reach : ℕ} {r u v spare indices degrees : List ℕ}
+    → AdvanceAsked p reciprocal n m w l k reach r u v spare indices degrees → w ≤ length spare
 width-small {n = n} {w = w} asked = omega (arith, asked .cell-room, one-line n w (omega (arith, asked .l-fits)))
 
 plan-requires : tie.Need-plan-requires
@@ -38,9 +38,6 @@ add-row-requires c κs =
 
 mul-add-row-by-cells : tie.Need-mul-add-row-by-cells
 mul-add-row-by-cells c = let start = c .before .before .before .before .before .before .before .before .before .before .before .before .before .before .before .before .before .before .before .before .before in omega (arith, start .pre .cell-room, start .good)
-
-add-add-row-by-cells : tie.Need-add-add-row-by-cells
-add-add-row-by-cells c = let start = c .before .before .before .before .before .before .before .before .before .before .before .before .before .before .before .before .before .before .before .before .before in omega (arith, start .pre .u-room, start .pre .plan .order, start .pre .cell-room, start .good)
 
 add-row-by-cells-requires : tie.Need-add-row-by-cells-requires
 add-row-by-cells-requires c κs =
@@ -115,7 +112,6 @@ advance-spec =
     slice-read-low
     add-row-requires
     mul-add-row-by-cells
-    add-add-row-by-cells
     add-row-by-cells-requires
     add-add-column
     sub-add-column

@@ -6,8 +6,8 @@ use Rattle.matrix.proofs.stepping.leading.Statement.{statement}
 use Rattle.matrix.proofs.stepping.leading.Tie as tie
 
 -- the coefficient lies in the row
-inside : (c : tie.Start) → let args = c .args in (args .x - 1) * args .w + (args .h - 1) < args .m * args .w
-inside c = within _ _ _ _ (omega (arith, c .pre .column, c .pre .column-most)) (omega (arith, c .pre .height, c .pre .height-most))
+inside : (c : tie.After-struct-known2) → let args = c .before .before .args in (args .x .0 - 1) * args .w + (args .h .0 - 1) < args .m * args .w
+inside c = let pre = c .before .before .pre in within _ _ _ _ (omega (arith, pre .column, pre .column-most)) (omega (arith, pre .height, pre .height-most))
 
 mul-s : tie.Need-mul-s
 mul-s c = search needs
@@ -22,19 +22,19 @@ mul-t10 : tie.Need-mul-t10
 mul-t10 c = search needs
 
 mul-t11 : tie.Need-mul-t11
-mul-t11 c = omega (arith, inside c, c .pre .row)
+mul-t11 c = omega (arith, inside c, c .before .before .pre .row)
 
 add-t12 : tie.Need-add-t12
-add-t12 c = omega (arith, inside c, c .pre .row)
+add-t12 c = omega (arith, inside c, c .before .before .pre .row)
 
 add-t13 : tie.Need-add-t13
-add-t13 c = omega (arith, inside c, c .pre .row)
+add-t13 c = omega (arith, inside c, c .before .before .pre .row)
 
 mul-t14 : tie.Need-mul-t14
-mul-t14 c = omega (arith, inside c, c .pre .row, c .good)
+mul-t14 c = omega (arith, inside c, c .before .before .pre .row, c .before .before .good)
 
 shared-slice-read-t16 : tie.Need-shared-slice-read-t16
-shared-slice-read-t16 c = omega (arith, inside (c .before), c .before .pre .row)
+shared-slice-read-t16 c = omega (arith, inside (c .before), c .before .before .before .pre .row)
 
 returns : tie.Need-returns
 returns c = search needs

@@ -26,20 +26,20 @@ mul-low c = search needs
 shared-slice-read-low : tie.Need-shared-slice-read-low
 shared-slice-read-low c = search needs
 
-mul-leading : tie.Need-mul-leading
-mul-leading c = search needs
+mul-t13 : tie.Need-mul-t13
+mul-t13 c = search needs
 
-shared-slice-read-leading : tie.Need-shared-slice-read-leading
-shared-slice-read-leading c = search needs
+shared-slice-read-t15 : tie.Need-shared-slice-read-t15
+shared-slice-read-t15 c = search needs
 
 leading-requires : tie.Need-leading-requires
 leading-requires c κs = search needs
 
-mul-leading-2 : tie.Need-mul-leading-2
-mul-leading-2 c = search needs
+mul-t13-2 : tie.Need-mul-t13-2
+mul-t13-2 c = search needs
 
-shared-slice-read-leading-2 : tie.Need-shared-slice-read-leading-2
-shared-slice-read-leading-2 c = search needs
+shared-slice-read-t15-2 : tie.Need-shared-slice-read-t15-2
+shared-slice-read-t15-2 c = search needs
 
 leading-requires-2 : tie.Need-leading-requires-2
 leading-requires-2 c κs = search needs
@@ -79,11 +79,11 @@ plan-spec =
     shared-slice-read-high
     mul-low
     shared-slice-read-low
-    mul-leading
-    shared-slice-read-leading
+    mul-t13
+    shared-slice-read-t15
     leading-requires
-    mul-leading-2
-    shared-slice-read-leading-2
+    mul-t13-2
+    shared-slice-read-t15-2
     leading-requires-2
     sub-divide
     divide-requires
