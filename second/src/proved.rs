@@ -146,7 +146,7 @@ fn wanted(call: &Arguments) -> Wanted {
                     count: done.count,
                     rows: done.row_list.iter().map(|row| 1 << (row - 1)).sum(),
                 },
-                    buffers: Some(vec![
+                buffers: Some(vec![
                     done.r.to_places(w),
                     done.u.to_places(n * w),
                     done.v.to_places(w),
@@ -276,7 +276,7 @@ fn agrees(label: &str, call: &Arguments) -> bool {
 }
 
 /// Compares a matrix that is not refused.
-fn matrix_agrees(label: &str, service: Service, p: u64, d: usize, a: &Matrix) -> bool {
+pub fn matrix_agrees(label: &str, service: Service, p: u64, d: usize, a: &Matrix) -> bool {
     let mut lengths = refuse::places(service, a.rows, a.columns, d);
     lengths.remove(0);
     agrees(

@@ -1,5 +1,6 @@
 //! The examples of the paper, W1 to W12, and the matrix of the report's
-//! Figure 1.
+//! Figure 1. With the feature `proved` the proved program is asked for each
+//! matrix too.
 
 use second::check;
 use second::det;
@@ -23,6 +24,11 @@ fn reduction(p: u64, d: usize, a: &Matrix) -> Reduction {
     let done = reduce::reduce(p, a);
     assert!(check::check_reduction(p, d, a, &done).is_empty());
     assert!(check::check_single_steps(p, a, &done).is_empty());
+    #[cfg(feature = "proved")]
+    for service in [Service::Reduction, Service::SingleStep] {
+        let label = "an example of the papers";
+        assert!(second::proved::matrix_agrees(label, service, p, d, a));
+    }
     done
 }
 

@@ -75,11 +75,3 @@ module _ {F : Type 0} (R : CommRing F) where
   product-identity n m A i j li lj =
       product-turned m A (identity R) (identity R) i j (λ k _. identity-iff k j j k sym sym)
       ∙ identity-product m n (transpose A) j i lj li
-
-  -- a row of a product is made of that row of the left factor alone
-  pub setrow-product : (n : ℕ) (B : Mat F) (r : ℕ) (u : ℕ → F) (A : Mat F) (i j : ℕ)
-      → product R n (setrow B r u) A i j ≡ setrow (product R n B A) r (λ k. sum R n (λ l. u l ⊛ A l k)) i j
-  unfolding product setrow
-  setrow-product n B r u A i j =
-      if-equal-ap (λ v. sum R n (λ l. v l ⊛ A l j)) i r u (B i)
-      ∙ sym (if-equal-ap (λ v. v j) i r (λ k. sum R n (λ l. u l ⊛ A l k)) (product R n B A i))

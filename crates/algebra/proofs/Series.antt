@@ -5,10 +5,11 @@ use Prim.Native.Nat.{ℕ, zero, suc, _-_, _≤_, _<_, zero-le}
 use native.Mathlib.Omega.{arith}
 use native.Mathlib.Nat as N
 use Rattle.algebra.specs.Ring.{CommRing}
+use Rattle.algebra.specs.Cases.{if-equal}
 use Rattle.algebra.specs.Sum.{sum}
 use Rattle.algebra.specs.Series.{_+ₛ_, _*ₛ_, mono, const}
 use Rattle.algebra.proofs.Ring as Ring
-use Rattle.algebra.proofs.Cases.{if-equal-same, if-equal-other}
+use Rattle.algebra.proofs.Cases.{if-equal-same, if-equal-other, if-equal-ap}
 use Rattle.algebra.proofs.Sum.{sum-nil, sum-suc, sum-cong, sum-null, sum-add, sum-mul, mul-sum, sum-single, sum-reverse}
 
 module _ {F : Type 0} (R : CommRing F) where
@@ -119,6 +120,10 @@ module _ {F : Type 0} (R : CommRing F) where
   pub neg-at : (f : ℕ → F) (k : ℕ) → series .neg f k ≡ neg (f k)
   unfolding series
   neg-at f k = refl
+
+  pub neg-mono : (c : F) (d : ℕ) → series .neg (mono R c d) ≡ mono R (neg c) d
+  unfolding mono
+  neg-mono c d = fun-ext (λ k. neg-at (mono R c d) k ∙ if-equal-ap neg k d c 𝟘 ∙ ap (if-equal k d (neg c)) (Ring.neg-zero R))
 
   pub zero-at : (k : ℕ) → series .𝟘 k ≡ 𝟘
   unfolding series

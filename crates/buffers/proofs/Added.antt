@@ -18,20 +18,13 @@ use Rattle.algebra.proofs.Cases.{case-le}
 use Rattle.algebra.proofs.Matrix.{setrow-same, setrow-other}
 use Rattle.algebra.proofs.PrimeField.{zp-field, field-add, field-mul, field-neg, field-zero}
 use Rattle.algebra.proofs.Ring.{neg-zero}
-use Rattle.algebra.proofs.Series.{series, add-at, neg-at, mono-same, mono-other, mono-mul-low, mono-mul-high}
+use Rattle.algebra.proofs.Series.{series, add-at, neg-mono, mono-mul-low, mono-mul-high}
 use Rattle.lattice.specs.Row.{Row}
 use Rattle.lattice.specs.PolynomialMatrix.{AllBounded}
 use Rattle.buffers.specs.Where.{whereTrue}
 use Rattle.buffers.specs.Held.{Held}
 use Rattle.buffers.specs.Added.{raised, CellsAdded, RowAdded, ColumnAdded}
 use Rattle.buffers.proofs.Place.{place-own, by-rows}
-
--- the negative of c·x^e
-neg-mono : {F : Type 0} (R : CommRing F) (c : F) (e : ℕ) → series R .neg (mono R c e) ≡ mono R (R .neg c) e
-neg-mono R c e = fun-ext (λ t. neg-at R (mono R c e) t ∙ elim (ℕ-discrete t e) [
-  | yes here ↦ rw here (ap (R .neg) (mono-same R c e) ∙ sym (mono-same R (R .neg c) e))
-  | no other ↦ ap (R .neg) (mono-other R c e t other) ∙ neg-zero R ∙ sym (mono-other R (R .neg c) e t other)
-])
 
 module _ (p : ℕ) (P : Prime p) where
   abbrev R : CommRing (Zp p)

@@ -4,31 +4,25 @@ use Prim.Native.Nat.{ℕ, suc, _+_, _*_, _/_, _%_, _≤_, _<_}
 use native.Mathlib.Omega.{arith}
 use native.Mathlib.Nat as N
 use Rattle.algebra.proofs.Cases.{case-le}
+use Rattle.lists.proofs.Grid.{line-end, within}
 use Rattle.buffers.specs.Place.{inRow, place, Hit, Layout}
-
--- of n blocks of s places, block i ends within
-pub block-end : (i n s : ℕ) → i < n → i * s + s ≤ n * s
-block-end i n s h = omega (arith, N.suc-mul i s, N.mul-le-mul-right s h)
 
 -- a place tells its block and its place in the block
 block-own : (s i r i′ r′ : ℕ) → r < s → r′ < s → i * s + r ≡ i′ * s + r′ → (i ≡ i′) × (r ≡ r′)
 block-own s i r i′ r′ h h′ e = case-le (suc i) i′
-    (λ less. absurd (omega (arith, block-end i i′ s less)))
+    (λ less. absurd (omega (arith, line-end i i′ s less)))
     (λ from. case-le (suc i′) i
-    (λ more. absurd (omega (arith, block-end i′ i s more)))
+    (λ more. absurd (omega (arith, line-end i′ i s more)))
     (λ to. let q : i ≡ i′ = omega arith in (q, omega (arith, ap (λ y. y * s) q))))
 
-pub in-row : (m w j t : ℕ) → j < m → t < w → inRow w j t < m * w
-in-row m w j t lj lt = omega (arith, block-end j m w lj)
-
 pub place-inside : (n m w i j t : ℕ) → i < n → j < m → t < w → place m w i j t < n * (m * w)
-place-inside n m w i j t li lj lt = omega (arith, block-end i n (m * w) li, in-row m w j t lj lt)
+place-inside n m w i j t li lj lt = omega (arith, line-end i n (m * w) li, within j t m w lj lt)
 
 -- a place tells its row, its column and its degree
 pub place-own : (m w i j t i′ j′ t′ : ℕ) → j < m → t < w → j′ < m → t′ < w → place m w i j t ≡ place m w i′ j′ t′
     → (i ≡ i′) × ((j ≡ j′) × (t ≡ t′))
 place-own m w i j t i′ j′ t′ lj lt lj′ lt′ e =
-    let (row, rest) = block-own (m * w) i (inRow w j t) i′ (inRow w j′ t′) (in-row m w j t lj lt) (in-row m w j′ t′ lj′ lt′) e in
+    let (row, rest) = block-own (m * w) i (inRow w j t) i′ (inRow w j′ t′) (within j t m w lj lt) (within j′ t′ m w lj′ lt′) e in
     (row, block-own w j t j′ t′ lt lt′ rest)
 
 pub place-hit : (n m w x : ℕ) → x < n * (m * w) → Hit n m w (place m w) x

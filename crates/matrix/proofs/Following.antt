@@ -10,7 +10,7 @@ use borrow.Author.Tests.{le-leb}
 use Rattle.buffers.specs.Place.{place}
 use Rattle.buffers.specs.Added.{RowAdded}
 use Rattle.rows.specs.Asked.{Multiplier, Short, RowsInBuffer, LinePair}
-use Rattle.pivots.proofs.Grid.{one-line}
+use Rattle.lists.proofs.Grid.{one-line}
 use Rattle.matrix.specs.Move.{Factor}
 use Rattle.matrix.specs.Asked.{PlanAsked, AdvanceAsked, RenewAsked}
 

@@ -22,7 +22,7 @@ use Rattle.reduction.specs.Pivot.{pivot, index, height}
 use Rattle.reduction.specs.Pair.{Reducing}
 use Rattle.reduction.proofs.Index.{index-some, height-some, height-pos, height-bound, clash-first, clash-second}
 use Rattle.pivots.specs.Pivot.{valueOf, rowOf, IsPivotOf, Pivots}
-use Rattle.pivots.proofs.Grid.{line-end, within}
+use Rattle.lists.proofs.Grid.{line-end, within}
 use Rattle.pivots.proofs.Search.{past-height}
 use Rattle.matrix.specs.Move.{leadingAt}
 use Rattle.matrix.specs.Asked.{LeadingAsked, PivotAsked, PlanAsked, Renewed}

@@ -19,7 +19,7 @@ use Rattle.buffers.specs.Held.{Held}
 use Rattle.buffers.proofs.Place.{by-rows}
 use Rattle.reduction.specs.Pivot.{top, value}
 use Rattle.pivots.specs.Pivot.{valueOf, rowOf}
-use Rattle.pivots.proofs.Grid.{line-end, within}
+use Rattle.lists.proofs.Grid.{line-end, within}
 
 module _ (p : ℕ) (P : Prime p) where
   abbrev K : Field (Zp p)

@@ -1,6 +1,6 @@
 // Reduction of matrices of polynomials, on buffers that the caller lends.
-pub mod listing;
+mod listing;
 pub mod reducing;
-pub mod scratch;
+mod scratch;
 pub mod single;
-pub mod stepping;
+mod stepping;

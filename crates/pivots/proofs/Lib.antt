@@ -1,4 +1,3 @@
-pub mod Grid
 pub mod Search
 pub mod LeastDegree
 pub mod Bits

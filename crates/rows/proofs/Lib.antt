@@ -1,3 +1,2 @@
 pub mod Cells
 pub mod Lines
-pub mod Asked

@@ -5,7 +5,7 @@ use mathlib.Core.List.{List}
 use Prim.Native.Nat.{ℕ, _+_, _*_, _≤_, _<_}
 use native.Mathlib.Omega.{arith}
 use lib.ListN.{length}
-use Rattle.buffers.proofs.Place.{block-end}
+use Rattle.lists.proofs.Grid.{line-end}
 use Rattle.rows.specs.Asked.{spaced, LinePair, CellPairs}
 
 -- where the two end, as rows of the matrix and as cells of a row
@@ -13,8 +13,8 @@ pub line-ends : {p reciprocal c e n w top x y : ℕ} {from : ℕ → ℕ → ℕ
     → ((x * (n * w) + n * w ≤ length b) × (x * w + w ≤ n * w)) × ((y * (n * w) + n * w ≤ length b) × (y * w + w ≤ n * w))
 line-ends {n = n} {w} {x = x} {y} pre =
     let size = pre .size in (
-      (omega (arith, block-end x n (n * w) (pre .x-fits)), block-end x n w (pre .x-fits)),
-      (omega (arith, block-end y n (n * w) (pre .y-fits)), block-end y n w (pre .y-fits)),
+      (omega (arith, line-end x n (n * w) (pre .x-fits)), line-end x n w (pre .x-fits)),
+      (omega (arith, line-end y n (n * w) (pre .y-fits)), line-end y n w (pre .y-fits)),
     )
 
 -- cell i of the line that is added to starts `i * stride` after `to`, and that of the other line as far after `from`

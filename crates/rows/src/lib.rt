@@ -12,7 +12,7 @@ use poly::polynomial;
 
 // c·x^e times a row is added to another, which lies apart from it. Only the lowest `top` places of a cell are read:
 // the caller knows that the others are zero, and time goes with the places that are read.
-pub fn add_to_row(
+fn add_to_row(
     row: &mut [u16],
     other: &[u16],
     m: usize,
@@ -68,7 +68,7 @@ pub fn add_row(
 }
 
 // The cell at `to` takes c·x^e times the cell at `from`, of which only the lowest `top` places are set aside and read.
-pub fn add_cell(
+fn add_cell(
     buf: &mut [u16],
     spare: &mut [u16],
     to: usize,
@@ -88,7 +88,7 @@ pub fn add_cell(
 }
 
 // The same for `count` pairs of cells, which follow one another at equal distances: the cells of two rows or of two columns.
-pub fn add_cells(
+fn add_cells(
     buf: &mut [u16],
     spare: &mut [u16],
     to: usize,

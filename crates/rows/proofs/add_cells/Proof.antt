@@ -5,7 +5,7 @@ use mathlib.Core.List.{List}
 use Prim.Native.Nat.{ℕ, _+_, _*_, _-_, _≤_, _<_}
 use lib.ListN.{length, getD}
 use Rattle.buffers.specs.Added.{CellAdded}
-use Rattle.buffers.proofs.Place.{block-end}
+use Rattle.lists.proofs.Grid.{line-end}
 use Rattle.rows.specs.Asked.{spaced, CellPair, CellPairs}
 use Rattle.rows.proofs.Cells.{part-residues, Adding, adding-start, adding-end, adding-turn, next-residues}
 use Rattle.rows.proofs.add_cells.Statement.{statement}
@@ -15,7 +15,7 @@ use Rattle.rows.proofs.add_cells.Tie as tie
 module _ (p reciprocal c e w top to from stride count : ℕ) (b₀ spare₀ b : List ℕ) (pre : CellPairs p reciprocal c e w top to from stride count b₀ spare₀)
     (i : ℕ) (now : Adding p c e w count (spaced to stride) (spaced from stride) b₀ b₀ b i) (li : i < count) where
   apart : (j t u : ℕ) → j < i → t < w → u < w → to + j * stride + t ≢ to + i * stride + u
-  apart j t u lj lt lu same = let wide = pre .distance in omega (arith, block-end j i stride lj)
+  apart j t u lj lt lu same = let wide = pre .distance in omega (arith, line-end j i stride lj)
 
   -- the cell that is read is as it was
   source : (u : ℕ) → u < w → getD b (from + i * stride + u) 0 ≡ getD b₀ (from + i * stride + u) 0

@@ -5,7 +5,8 @@ use mathlib.Core.List.{List}
 use Prim.Native.Nat.{ℕ, _*_}
 use Rattle.buffers.specs.Place.{place}
 use Rattle.buffers.specs.Added.{CellsAdded, ColumnAdded}
-use Rattle.buffers.proofs.Place.{block-end, place-own}
+use Rattle.lists.proofs.Grid.{line-end}
+use Rattle.buffers.proofs.Place.{place-own}
 use Rattle.rows.specs.Asked.{spaced, LinePair, CellPairs}
 use Rattle.rows.proofs.Cells.{places-same}
 use Rattle.rows.proofs.Lines.{line-ends, line-cells}
@@ -19,7 +20,7 @@ module _ (p reciprocal c e n w top x y : ℕ) (b spare : List ℕ) (pre : LinePa
 
   cells : CellPairs p reciprocal c e w top (x * w) (y * w) (n * w) n b spare
   cells = line-cells _ _ _ pre (let ends = line-ends pre in omega arith) (λ i t. omega arith)
-      (λ i li. (let ends = line-ends pre in (omega (arith, block-end i n (n * w) li), omega (arith, block-end i n (n * w) li))))
+      (λ i li. (let ends = line-ends pre in (omega (arith, line-end i n (n * w) li), omega (arith, line-end i n (n * w) li))))
       (λ i j t u li lj lt lu same. pre .differ (place-own n w i x t j y u (pre .x-fits) lt (pre .y-fits) lu (same-place i j t u same) .1 .0))
 
   added : (b′ : List ℕ) → CellsAdded p c e w n (spaced (x * w) (n * w)) (spaced (y * w) (n * w)) b b b′ → ColumnAdded p n w c e x y b b′

@@ -10,7 +10,7 @@ use Rattle.lists.specs.Part.{part}
 use Rattle.lists.proofs.Part.{length-part, getD-part}
 use Rattle.buffers.specs.Place.{inRow, place}
 use Rattle.buffers.specs.Added.{CellsAdded, RowAdded}
-use Rattle.buffers.proofs.Place.{in-row}
+use Rattle.lists.proofs.Grid.{within}
 use Rattle.rows.specs.Asked.{RowPair, RowsInBuffer}
 use Rattle.rows.proofs.Cells.{part-residues, part-added, source-moved}
 use Rattle.rows.proofs.add_row.Statement.{statement}
@@ -20,7 +20,7 @@ use Rattle.rows.proofs.add_row.Tie as tie
 module _ (p reciprocal c e m w top l k : ℕ) (b spare room : List ℕ) (pre : RowsInBuffer p reciprocal c e m w top l k b spare)
     (aside : take (m * w) room ≡ part (k * (m * w)) (m * w) b) where
   source : (j t : ℕ) → j < m → t < w → getD (part (k * (m * w)) (m * w) b) (inRow w j t) 0 ≡ getD b (place m w k j t) 0
-  source j t lj lt = getD-part (k * (m * w)) (m * w) b (pre .k-fits) (inRow w j t) (in-row m w j t lj lt)
+  source j t lj lt = getD-part (k * (m * w)) (m * w) b (pre .k-fits) (inRow w j t) (within j t m w lj lt)
 
   lent : RowPair p reciprocal c e m w top (take (l * (m * w) + m * w - l * (m * w)) (drop (l * (m * w)) b)) (take (m * w) room)
   lent = rw (aside, add-sub-cancel-left (l * (m * w)) (m * w)) (record {
@@ -35,7 +35,7 @@ module _ (p reciprocal c e m w top l k : ℕ) (b spare room : List ℕ) (pre : R
   back : (new : List ℕ) → CellsAdded p c e w m (inRow w) (inRow w) (take (m * w) room) (take (l * (m * w) + m * w - l * (m * w)) (drop (l * (m * w)) b)) new
       → RowAdded p m w c e l k b (take (l * (m * w)) b ++ (new ++ drop (l * (m * w) + m * w - l * (m * w)) (drop (l * (m * w)) b)))
   back new d = rw (add-sub-cancel-left (l * (m * w)) (m * w)) (source-moved source
-      (part-added p c e w m (l * (m * w)) (m * w) (inRow w) (inRow w) _ b new (pre .l-fits) (in-row m w) (rw (aside, add-sub-cancel-left (l * (m * w)) (m * w)) at d)))
+      (part-added p c e w m (l * (m * w)) (m * w) (inRow w) (inRow w) _ b new (pre .l-fits) (λ j t. within j t m w) (rw (aside, add-sub-cancel-left (l * (m * w)) (m * w)) at d)))
 
 mul-size : tie.Need-mul-size
 mul-size c = search needs

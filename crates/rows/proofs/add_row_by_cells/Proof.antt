@@ -5,7 +5,8 @@ use mathlib.Core.List.{List}
 use Prim.Native.Nat.{ℕ, _*_}
 use Rattle.buffers.specs.Place.{place}
 use Rattle.buffers.specs.Added.{CellsAdded, RowAdded}
-use Rattle.buffers.proofs.Place.{block-end, place-own}
+use Rattle.lists.proofs.Grid.{line-end}
+use Rattle.buffers.proofs.Place.{place-own}
 use Rattle.rows.specs.Asked.{spaced, LinePair, CellPairs}
 use Rattle.rows.proofs.Cells.{places-same}
 use Rattle.rows.proofs.Lines.{line-ends, line-cells}
@@ -19,7 +20,7 @@ module _ (p reciprocal c e n w top l k : ℕ) (b spare : List ℕ) (pre : LinePa
 
   cells : CellPairs p reciprocal c e w top (l * (n * w)) (k * (n * w)) w n b spare
   cells = line-cells _ _ _ pre (omega arith) (λ i t. omega arith)
-      (λ i li. (let ends = line-ends pre in let size = pre .size in (omega (arith, block-end i n w li), omega (arith, block-end i n w li))))
+      (λ i li. (let ends = line-ends pre in let size = pre .size in (omega (arith, line-end i n w li), omega (arith, line-end i n w li))))
       (λ i j t u li lj lt lu same. pre .differ (place-own n w l i t k j u li lt lj lu (same-place i j t u same) .0))
 
   added : (b′ : List ℕ) → CellsAdded p c e w n (spaced (l * (n * w)) w) (spaced (k * (n * w)) w) b b b′ → RowAdded p n w c e l k b b′

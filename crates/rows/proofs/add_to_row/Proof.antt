@@ -8,7 +8,7 @@ use lib.ListN.{length, take, drop}
 use Rattle.lists.proofs.Part.{length-part}
 use Rattle.poly.specs.Polynomial.{plusMultiple, Multiple}
 use Rattle.buffers.specs.Place.{inRow}
-use Rattle.buffers.proofs.Place.{block-end}
+use Rattle.lists.proofs.Grid.{line-end}
 use Rattle.rows.specs.Asked.{RowPair}
 use Rattle.rows.proofs.Cells.{part-residues, short-cell, shifted-part, cell-lent, cell-back, Adding, adding-start, adding-end, adding-turn, next-residues}
 use Rattle.rows.proofs.add_to_row.Statement.{statement}
@@ -18,13 +18,13 @@ use Rattle.rows.proofs.add_to_row.Tie as tie
 module _ (p reciprocal c e m w top : ℕ) (row₀ other row : List ℕ) (pre : RowPair p reciprocal c e m w top row₀ other) (j : ℕ)
     (now : Adding p c e w m (inRow w) (inRow w) other row₀ row j) (lj : j < m) where
   apart : (i t u : ℕ) → i < j → t < w → u < w → i * w + t ≢ j * w + u
-  apart i t u li lt lu same = omega (arith, block-end i j w li)
+  apart i t u li lt lu same = omega (arith, line-end i j w li)
 
   fits : j * w + w ≤ length row
-  fits = omega (arith, now .done .size, pre .row-size, block-end j m w lj)
+  fits = omega (arith, now .done .size, pre .row-size, line-end j m w lj)
 
   other-fits : j * w + top ≤ length other
-  other-fits = let room : e + top ≤ w = pre .multiplier .room in omega (arith, pre .other-size, block-end j m w lj)
+  other-fits = let room : e + top ≤ w = pre .multiplier .room in omega (arith, pre .other-size, line-end j m w lj)
 
   lent : Multiple p reciprocal c e (take (j * w + w - j * w) (drop (j * w) row)) (take (j * w + top - j * w) (drop (j * w) other))
   lent = rw (add-sub-cancel-left (j * w) top) (cell-lent p reciprocal c e w top (j * w) row _ fits (pre .multiplier)
@@ -47,7 +47,7 @@ abbrev μ-loop : tie.MeasureT-loop
 
 ends : (c : tie.In-loop Inv-loop μ-loop) → c .before .loop .j * c .before .before .before .before .args .w + c .before .before .before .before .args .w
     ≤ c .before .before .before .before .args .m * c .before .before .before .before .args .w
-ends c = block-end _ _ _ (c .loop-test .taken)
+ends c = line-end _ _ _ (c .loop-test .taken)
 
 loop-holds : tie.Need-loop-holds Inv-loop μ-loop
 loop-holds c = adding-start _ _ _ _ _ _ _ _ _

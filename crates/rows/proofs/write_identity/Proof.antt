@@ -10,7 +10,8 @@ use Rattle.lists.proofs.Change.{length-imap, getD-imap-every}
 use Rattle.poly.specs.Polynomial.{zeros}
 use Rattle.buffers.specs.Place.{place}
 use Rattle.buffers.specs.Diagonal.{Ones}
-use Rattle.buffers.proofs.Place.{block-end, place-inside, place-own}
+use Rattle.lists.proofs.Grid.{line-end}
+use Rattle.buffers.proofs.Place.{place-inside, place-own}
 use Rattle.rows.proofs.write_identity.Statement.{statement}
 use Rattle.rows.proofs.write_identity.Tie as tie
 
@@ -31,7 +32,7 @@ record Writing (n w : ℕ) (u : List ℕ) (i : ℕ) : Type 0 where
 module _ (n w : ℕ) (u : List ℕ) (i : ℕ) (now : Writing n w u i) (li : i < n) where
   -- row i and the one in it are within the buffer
   inside : (place n w i i 0 < length u) × (n * w ≤ length u)
-  inside = (omega (arith, now .done .size, place-inside n n w i i 0 li li (now .some)), omega (arith, now .done .size, block-end i n (n * w) li))
+  inside = (omega (arith, now .done .size, place-inside n n w i i 0 li li (now .some)), omega (arith, now .done .size, line-end i n (n * w) li))
 
   turn : (at : ℕ) → at ≡ place n w i i 0 → Writing n w (set u at 1) (i + 1)
   turn at at-is =

@@ -4,7 +4,7 @@ use mathlib.Core.Path.{refl, _∙_}
 use mathlib.Core.List.{List}
 use Prim.Native.Nat.{ℕ, _*_, _≤_}
 use lib.ListN.{length}
-use Rattle.pivots.proofs.Grid.{one-line}
+use Rattle.lists.proofs.Grid.{one-line}
 use Rattle.matrix.specs.Asked.{AdvanceAsked}
 use Rattle.matrix.proofs.Following.{row-asked, u-asked, v-asked, renew-asked}
 use Rattle.matrix.proofs.stepping.advance.Statement.{statement}

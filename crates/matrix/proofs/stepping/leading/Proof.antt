@@ -1,7 +1,7 @@
 use native.Mathlib.Omega.{arith}
 use borrow.Author.Needs.{needs}
 use Prim.Native.Nat.{_+_, _-_, _*_, _<_}
-use Rattle.pivots.proofs.Grid.{within}
+use Rattle.lists.proofs.Grid.{within}
 use Rattle.matrix.proofs.stepping.leading.Statement.{statement}
 use Rattle.matrix.proofs.stepping.leading.Tie as tie
 

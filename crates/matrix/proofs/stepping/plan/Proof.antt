@@ -5,7 +5,7 @@ use mathlib.Core.List.{List}
 use Prim.Native.Nat.{ℕ, _-_, _*_, _%_, _<_}
 use lib.ListN.{length}
 use Rattle.buffers.specs.Place.{place}
-use Rattle.pivots.proofs.Grid.{within}
+use Rattle.lists.proofs.Grid.{within}
 use Rattle.matrix.specs.Asked.{LeadingAsked}
 use Rattle.matrix.proofs.stepping.plan.Statement.{statement}
 use Rattle.matrix.proofs.stepping.plan.Tie as tie

@@ -9,7 +9,7 @@ use Rattle.pivots.specs.Pivot.{valueOf, rowOf}
 use lib.ListN.{length}
 use denote.Ref.{now}
 use Rattle.pivots.proofs.Search.{row-part, row-asked}
-use Rattle.pivots.proofs.Grid.{line-end, one-line}
+use Rattle.lists.proofs.Grid.{line-end, one-line}
 use Rattle.pivots.proofs.pivot.all.Statement.{statement}
 use Rattle.pivots.proofs.pivot.all.Tie as tie
 

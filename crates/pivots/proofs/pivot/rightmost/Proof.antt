@@ -1,6 +1,6 @@
 use borrow.Author.Needs.{needs}
 use native.Mathlib.Omega.{arith}
-use Rattle.pivots.proofs.Grid.{one-line}
+use Rattle.lists.proofs.Grid.{one-line}
 use Rattle.pivots.proofs.Search.{Searching, searching-start, searching-fits, searching-found, searching-on, searching-none}
 use Rattle.pivots.proofs.pivot.rightmost.Statement.{statement}
 use Rattle.pivots.proofs.pivot.rightmost.Tie as tie
