@@ -6,7 +6,7 @@ use native.Mathlib.Nat.{zero-mul, mul-zero, add-zero, mod-eq-of-lt, add-sub-canc
 use native.Mathlib.Numerals.{add-one}
 use native.Mathlib.Decide.{decLe}
 use native.Mathlib.Omega.{arith}
-use lib.IntN.{ℤ, pos, predℤ}
+use lib.IntN.{pos, predℤ}
 use lib.ListN.{length, getD, take, drop}
 use lib.Seq.{ext-getD, getD-take, length-take-le}
 use borrow.Author.Tests.{le-leb, lt-leb, lt-ltb}
@@ -19,7 +19,8 @@ use Rattle.lists.proofs.Change.{length-imap, getD-imap, getD-past}
 use Rattle.lists.proofs.Part.{length-part, getD-part, length-onPart, onPart-low, onPart-in, onPart-high}
 use Rattle.lists.proofs.Last.{last-is}
 use Rattle.lists.proofs.Total.{total-suc, total-more}
-use Rattle.poly.specs.Polynomial.{Coefficients, shifted, plusTimes, plusMultiple, Multiple, Scaling, productAt, SamePolynomial, height, leadingOf}
+use Rattle.poly.proofs.Ending.{ends-height}
+use Rattle.poly.specs.Polynomial.{shifted, plusTimes, plusMultiple, Multiple, Scaling, productAt, SamePolynomial, height, leadingOf}
 
 -- a list whose every element is that of another
 pub imap-copy : (from to : List ℕ) → length from ≡ length to → imap (λ i x. getD from i 0) to ≡ from
@@ -84,27 +85,34 @@ module _ (p reciprocal c e : ℕ) (a b : List ℕ) (pre : Multiple p reciprocal 
       ∙ ap (λ (y : ℕ). y % p) (add-zero (getD a i 0))
       ∙ mod-eq-of-lt (pre .target .below i h))
 
-  shifted-low : (i : ℕ) → i < e → shifted e b i ≡ 0
-  shifted-low i h = simp (lt-leb e i h)
-
   shifted-high : (i : ℕ) → e ≤ i → shifted e b i ≡ getD b (i - e) 0
   shifted-high i h = simp (le-leb e i h)
+
+  -- x^e times b has no term below e, and none from the height of b on
+  outside : (i : ℕ) → (e ≤ i → e + height b ≤ i) → shifted e b i ≡ 0
+  outside i h = elim (decLe e i) [
+    | yes from ↦ (let past = h from in shifted-high i from ∙ ends-height b .zeros (i - e) (omega arith))
+    | no below ↦ (let low : i < e = omega arith in simp (lt-leb e i low))
+  ]
 
   -- a list with the rule's value at every place
   pub by-places : (l : List ℕ) → length l ≡ length a → ((i : ℕ) → i < length a → getD l i 0 ≡ (getD a i 0 + c * shifted e b i) % p) → l ≡ plusMultiple p c e b a
   unfolding plusMultiple
   by-places l same at = ext-getD 0 l _ (same ∙ sym (length-imap _ a)) (λ i h. at i (omega arith) ∙ sym (getD-imap _ a i (omega arith)))
 
-  pub nothing-added : length a ≤ e → a ≡ plusMultiple p c e b a
-  nothing-added h = by-places a refl (λ i l. idle i l (shifted-low i (omega arith)))
+  pub nothing-added : height b ≡ 0 → a ≡ plusMultiple p c e b a
+  nothing-added none = by-places a refl (λ i h. idle i h (outside i (λ from. omega arith)))
 
-  -- n places, as many as b has and a has room for from e on
-  module _ (n : ℕ) (n-is : n ≡ length b - (length b - (length a - e))) (within : e < length a) where
+  -- n places, up to the last of b that is not zero: a has them all
+  module _ (n : ℕ) (n-is : n ≡ height b) (some : 0 < n) where
     add : List ℕ → List ℕ
     add = imap (plusTimes p c (take n b))
 
-    fits : e + n ≤ length a
-    fits = omega arith
+    pub fits : e + n ≤ length a
+    fits = elim (decLe (e + n) (length a)) [
+      | yes in-a ↦ in-a
+      | no past ↦ absurd (last-is (length b) (λ i. getD b i 0) .top (omega arith) (pre .room (height b - 1) (omega arith)))
+    ]
 
     keeps : length (add (part e n a)) ≡ n
     unfolding add
@@ -113,9 +121,9 @@ module _ (p reciprocal c e : ℕ) (a b : List ℕ) (pre : Multiple p reciprocal 
     place : (i : ℕ) → i < length a → getD (onPart e n add a) i 0 ≡ rule i (getD a i 0)
     unfolding add
     place i h = elim (decLe e i) [
-      | no low ↦ onPart-low e n a fits add keeps i (omega arith) ∙ idle i h (shifted-low i (omega arith))
+      | no low ↦ onPart-low e n a fits add keeps i (omega arith) ∙ idle i h (outside i (λ from. omega arith))
       | yes from ↦ elim (decLe (e + n) i) [
-        | yes past ↦ onPart-high e n a fits add keeps i past ∙ idle i h (shifted-high i from ∙ getD-past b (i - e) (omega arith))
+        | yes past ↦ onPart-high e n a fits add keeps i past ∙ idle i h (outside i (λ from. omega arith))
         | no before ↦
             (let here : i ≡ e + (i - e) = omega arith in
             let inside : i - e < n = omega arith in
@@ -128,13 +136,16 @@ module _ (p reciprocal c e : ℕ) (a b : List ℕ) (pre : Multiple p reciprocal 
       ]
     ]
 
+    within : n ≤ length b
+    within = omega (arith, ends-height b .within)
+
     -- what a sum asks of the part that is lent, and what is there when it comes back
     pub part-lent : Scaling p reciprocal c (take (e + n - e) (drop e a)) (take n b)
     part-lent = record {
       ready = pre .ready;
       factor = pre .factor;
-      same = rw (add-sub-cancel-left e n) (length-part e n a fits ∙ sym (length-take-le n b (omega arith)));
-      source = record { below = λ i h. let l : i < n = omega (arith, length-take-le n b (omega arith)) in rw (getD-take n b i 0 l) (pre .source .below i (omega arith)) };
+      same = rw (add-sub-cancel-left e n) (length-part e n a fits ∙ sym (length-take-le n b within));
+      source = record { below = λ i h. let l : i < n = omega (arith, length-take-le n b within) in rw (getD-take n b i 0 l) (pre .source .below i (omega (arith, within))) };
     }
 
     pub part-back : (new : List ℕ) → new ≡ imap (plusTimes p c (take n b)) (take (e + n - e) (drop e a))
@@ -150,10 +161,7 @@ same-upto a b end la lb h = record {
 
 -- the zero polynomial has no leading coefficient
 pub leading-none : (l : List ℕ) → height l ≡ 0 → leadingOf l ≡ 0
-leading-none l z =
-    let here : height l - 1 ≡ 0 = omega arith in
-    ap (λ (i : ℕ). getD l i 0) here
-    ∙ elim (decLe (length l) 0) [ yes short ↦ getD-past l 0 short | no some ↦ last-is (length l) (λ i. getD l i 0) .zeros 0 (omega arith) (omega arith) ]
+leading-none l z = ends-height l .zeros (height l - 1) (omega arith)
 
 -- the degree of a polynomial that is not zero, as the machine has it
 pub degree-some : (h n : ℕ) → n ≡ h → 0 < n → n ≤ 2 ^ 63 → toZ w64 (n - 1) ≡ predℤ (pos h)

@@ -1,6 +1,6 @@
 -- Each function of this crate as the operation of the field Z/p or of its polynomials: what the lists hold before and after.
 use mathlib.Core.Path.{_≡_, refl, sym, ap, ap₂, _∙_, fun-ext}
-use mathlib.Core.Logic.{_≢_, _↔_}
+use mathlib.Core.Logic.{_↔_}
 use mathlib.Core.List.{List}
 use Prim.Native.Nat.{ℕ, zero, suc, _+_, _*_, _-_, _%_, _≤_, _<_}
 use native.Mathlib.Nat as N
@@ -22,7 +22,7 @@ use Rattle.algebra.proofs.Sum.{sum-nil, sum-suc}
 use Rattle.lists.specs.Total.{total}
 use Rattle.lists.proofs.Change.{getD-imap-every, getD-past}
 use Rattle.lists.proofs.Last.{IsLast, last-is}
-use Rattle.lists.proofs.Total.{total-suc}
+use Rattle.poly.proofs.Ending.{ends-height}
 use Rattle.poly.specs.Modulus.{Inverse}
 use Rattle.poly.specs.Polynomial.{Coefficients, height, degreeOf, leadingOf, shifted, plusMultiple, Multiple, productAt, productOf, Product, scaledBy, zeros, SamePolynomial}
 use Rattle.poly.specs.Reading.{Holds}
@@ -77,10 +77,7 @@ module _ (p : ℕ) (P : Prime p) where
     last = last-is (length l) (λ i. getD l i 0)
 
     past-height : (k : ℕ) → height l ≤ k → f k ≡ K .ring .𝟘
-    past-height k from = elim (decLe (length l) k) [
-      | yes past ↦ holds-below k past
-      | no before ↦ number-zero (f k) (sym (h .at k) ∙ last .zeros k from (omega arith))
-    ]
+    past-height k from = number-zero (f k) (sym (h .at k) ∙ ends-height l .zeros k from)
 
     -- the height that a degree stands for
     height-none : degreeOf l ≡ negsuc 0 → height l ≡ 0

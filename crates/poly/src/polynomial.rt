@@ -2,7 +2,7 @@
 ghost use mathlib.Core.Path.{_≡_};
 ghost use mathlib.Core.Bool.{true};
 ghost use mathlib.Core.Logic.{_↔_};
-ghost use Prim.Native.Nat.{_+_, _*_, _-_, _%_, _<_, _≤_};
+ghost use Prim.Native.Nat.{ℕ, _+_, _*_, _-_, _%_, _<_, _≤_};
 ghost use lib.ListN.{length, getD};
 ghost use Rattle.lists.specs.Change.{imap};
 ghost use Rattle.poly.specs.Modulus.{Ready};
@@ -20,11 +20,39 @@ fn coefficient(a: &[u16], i: usize) -> u16
     if i < a.len() { a[i] } else { 0 }
 }
 
+// Whether all places are zero. No early exit, so that eight places become one comparison of vectors.
+fn all_zero(a: &[u16]) -> bool
+    ensures { λ r. ⌜ (r ≡ true) ↔ ((i : ℕ) → i < length (now (a .entry)) → getD (now (a .entry)) i 0 ≡ 0) ⌝ }
+{
+    let mut bits: u16 = 0;
+    let mut i = 0;
+    while i < a.len() {
+        bits |= a[i];
+        i += 1;
+    }
+    bits == 0
+}
+
+// The places that are left when zeros at the end are dropped in eights.
+fn skip(a: &[u16]) -> usize
+    ensures { λ r. ⌜ (r ≤ length (now (a .entry))) × ((i : ℕ) → r ≤ i → getD (now (a .entry)) i 0 ≡ 0) ⌝ }
+{
+    let mut n = a.len();
+    while 8 <= n {
+        let start = n - 8;
+        if !all_zero(&a[start..n]) {
+            return n;
+        }
+        n = start;
+    }
+    n
+}
+
 // The places up to the last coefficient that is not zero.
 fn used(a: &[u16]) -> usize
     ensures { λ r. ⌜ (r ≡ height (now (a .entry))) × (r ≤ length (now (a .entry))) ⌝ }
 {
-    let mut n = a.len();
+    let mut n = skip(a);
     while 0 < n {
         if a[n - 1] != 0 {
             return n;
@@ -85,15 +113,15 @@ fn plus_product(x: u16, c: u16, y: u16, m: Modulus) -> u16
     m.remainder((x as u32) + (c as u32) * (y as u32))
 }
 
-// a plus c·x^e times b, in a's places. Terms of b that would fall outside are zero, by the contract.
+// a plus c·x^e times b, in a's places. The terms of b up to the last that is not zero all fit, by the contract.
 pub fn add_multiple(a: &mut [u16], b: &[u16], c: Residue, e: usize, m: Modulus)
     requires { ⌜ Multiple (m .p) (m .reciprocal) (c .0) e (now a) (now b) ⌝ }
     ensures { λ _. ⌜ now (a .exit) ≡ plusMultiple (m .p) (c .0) e (now (b .entry)) (now (a .entry)) ⌝ }
 {
-    if a.len() <= e {
+    let n = used(b);
+    if n == 0 {
         return;
     }
-    let n = b.len() - excess(b.len(), a.len() - e);
     let start = e;
     let end = start + n;
     add_scaled(&mut a[start..end], &b[..n], c, m);

@@ -99,7 +99,7 @@ impl Residue {
         Residue(m.remainder((self.0 as u32) * (b.0 as u32)))
     }
 
-    // By p = (p / a) * a + p % a: each turn goes from a to p % a, and so on down to 1.
+    // By p = (p / a) * a + p % a: each turn goes from a to p % a by one division, and so on down to 1.
     pub fn inverse(self, m: Modulus) -> Residue
         requires { ⌜ Ready (m .p) (m .reciprocal) ⌝ }
         requires { ⌜ Prime (m .p) ⌝ }
@@ -108,28 +108,42 @@ impl Residue {
     {
         let p = m.p;
         let mut left = self.0 as u32;
-        let mut found = Residue::ONE.0 as u32;
+        let mut found = Residue::ONE;
         while 1 < left {
-            found = found * (p - p / left) % p;
-            left = p % left;
+            let q = p / left;
+            found = Residue::of((found.0 as u32) * (p - q), m);
+            left = p - q * left;
         }
-        Residue(found as u16)
+        found
     }
 }
 
-// Whether p is a prime, by trial division up to its root.
+// Whether p is a prime, by trial division up to its root. Past 2 and 3 only 6k - 1 and 6k + 1 are tried, each by
+// one division: the quotient by d also tells when the root is passed.
 pub fn is_prime(p: u32) -> bool
     ensures { λ r. ⌜ (r ≡ true) ↔ Prime p ⌝ }
 {
-    if p < 2 {
+    if p < 4 {
+        return 1 < p;
+    }
+    if p % 2 == 0 {
         return false;
     }
-    let mut d: u32 = 2;
-    while d <= p / d {
-        if p % d == 0 {
+    if p % 3 == 0 {
+        return false;
+    }
+    let mut d: u32 = 5;
+    loop {
+        let q = p / d;
+        if q < d {
+            return true;
+        }
+        if q * d == p {
             return false;
         }
-        d += 1;
+        if p % (d + 2) == 0 {
+            return false;
+        }
+        d += 6;
     }
-    true
 }

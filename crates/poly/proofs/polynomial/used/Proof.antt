@@ -1,22 +1,22 @@
 use borrow.Author.Needs.{needs}
 use native.Mathlib.Omega.{arith}
-use mathlib.Core.Path.{_≡_, refl, sym, ap, _∙_}
-use Prim.Native.Nat.{ℕ, _≤_}
-use lib.ListN.{length, getD}
-use Rattle.lists.specs.Last.{lastNonzero}
-use Rattle.lists.proofs.Last.{last-nil, last-zero, last-here}
-use Rattle.poly.specs.Polynomial.{height}
+use mathlib.Core.Path.{_≡_, sym, _∙_}
+use Prim.Native.Nat.{_-_}
+use Rattle.poly.proofs.Ending.{Ends, ends-lower, ends-at}
 use Rattle.poly.proofs.polynomial.used.Statement.{statement}
 use Rattle.poly.proofs.polynomial.used.Tie as tie
 
 abbrev Inv-loop : tie.InvT-loop
-Inv-loop a n₀ n = (n ≤ length a) × (height a ≡ lastNonzero n (λ i. getD a i 0))
+Inv-loop a n₀ n = Ends a n
 
 abbrev μ-loop : tie.MeasureT-loop
 μ-loop a n₀ n = n
 
+skip-requires : tie.Need-skip-requires Inv-loop μ-loop
+skip-requires c κs = search needs
+
 loop-holds : tie.Need-loop-holds Inv-loop μ-loop
-loop-holds c = (omega arith, refl)
+loop-holds c = record { within = c .skip .ensures .0; zeros = c .skip .ensures .1 }
 
 sub-if1 : tie.Need-sub-if1 Inv-loop μ-loop
 sub-if1 c = omega arith
@@ -30,7 +30,7 @@ shared-slice-read-if1 c = omega arith
 returns : tie.Need-returns Inv-loop μ-loop
 returns c =
     let inv = c .before .before .before .loop .inv in
-    (sym (inv .1 ∙ last-here _ _ (omega arith) (c .if1 .taken)), inv .0)
+    (ends-at _ _ inv (λ _. c .if1 .taken), inv .within)
 
 sub-n : tie.Need-sub-n Inv-loop μ-loop
 sub-n c = omega arith
@@ -40,15 +40,13 @@ loop-less c = omega arith
 
 loop-again : tie.Need-loop-again Inv-loop μ-loop
 loop-again c =
-    let inv = c .before .before .before .loop .inv in
-    (omega arith, inv .1 ∙ last-zero _ _ (omega arith) (c .if1 .left))
+    let at = c .before .before .before .loop in
+    ends-lower _ _ _ (at .inv) (omega arith) (λ i h k. let last : i ≡ at .n - 1 = omega arith in rw last (c .if1 .left))
 
 returns-2 : tie.Need-returns-2 Inv-loop μ-loop
 returns-2 c =
-    let inv = c .before .loop .inv in
-    let f : ℕ → ℕ = λ i. getD (c .before .before .args .a .now) i 0 in
     let none : c .before .loop .n ≡ 0 = omega arith in
-    (sym (inv .1 ∙ ap (λ (n : ℕ). lastNonzero n f) none ∙ last-nil f), omega arith)
+    (sym none ∙ ends-at _ _ (c .before .loop .inv) (λ h. absurd (omega arith)), omega arith)
 
 pub used-spec : {M : Type 1} → statement M
 used-spec =
@@ -56,6 +54,7 @@ used-spec =
     (tie.spec
     Inv-loop
     μ-loop
+    skip-requires
     loop-holds
     sub-if1
     mul-if1

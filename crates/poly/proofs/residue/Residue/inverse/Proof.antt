@@ -1,73 +1,70 @@
--- The invariant: a times found is left modulo p, and both are below p. p's remainder by left is not 0, since p is prime.
 use borrow.Author.Needs.{needs}
 use native.Mathlib.Omega.{arith}
-use native.Mathlib.Nat.{mod-lt, mod-eq-of-lt, mul-one, mul-le-mul, div-le-self, pos-of-ne-zero}
-use mathlib.Core.Path.{_≡_, ap, _∙_}
-use Prim.Native.Nat.{ℕ, _≤_, _<_, _*_, _%_, _/_, _-_}
-use Rattle.poly.proofs.Inverting.{next}
+use native.Mathlib.Nat.{div-le-self, div-mul-le-self, lt-of-le-of-lt}
+use mathlib.Core.Path.{_∙_}
+use Rattle.poly.proofs.Inverting.{Inverting, inverting-start, inverting-fits, inverting-less, inverting-turn}
 use Rattle.poly.proofs.residue.Residue.inverse.Statement.{statement}
 use Rattle.poly.proofs.residue.Residue.inverse.Tie as tie
 
 abbrev Inv-loop : tie.InvT-loop
-Inv-loop p left₀ found₀ left found = (0 < left) × (left < p) × (found < p) × ((left₀ * found) % p ≡ left)
+Inv-loop m p left₀ found₀ left found = Inverting p left₀ left (found .0)
 
 abbrev μ-loop : tie.MeasureT-loop
-μ-loop p left₀ found₀ left found = left
+μ-loop m p left₀ found₀ left found = left
 
 cast-left : tie.Need-cast-left Inv-loop μ-loop
 cast-left c = search needs
 
-cast-found : tie.Need-cast-found Inv-loop μ-loop
-cast-found c = search needs
-
 loop-holds : tie.Need-loop-holds Inv-loop μ-loop
-loop-holds c =
-    let a = c .before .before .args .self .0 in
-    (search needs, search needs, omega (arith, c .before .before .pre), ap (λ (n : ℕ). n % c .before .before .args .m .p) (mul-one a) ∙ mod-eq-of-lt (search needs))
+loop-holds c = inverting-start _ _ (search needs) (search needs)
 
-div-found : tie.Need-div-found Inv-loop μ-loop
-div-found c = search needs
+div-q : tie.Need-div-q Inv-loop μ-loop
+div-q c = search needs
 
-sub-found : tie.Need-sub-found Inv-loop μ-loop
-sub-found c = div-le-self _ _
+cast-of : tie.Need-cast-of Inv-loop μ-loop
+cast-of c = search needs
 
-mul-found : tie.Need-mul-found Inv-loop μ-loop
-mul-found c =
-    let p = c .before .before .before .before .args .m .p in
-    let few : c .before .loop .found ≤ 65521 = omega arith in
-    let rest : p - p / c .before .loop .left ≤ 65521 = omega arith in
-    let most : c .before .loop .found * (p - p / c .before .loop .left) ≤ 65521 * 65521 = mul-le-mul few rest in
-    omega arith
+sub-of : tie.Need-sub-of Inv-loop μ-loop
+sub-of c = div-le-self _ _
 
-rem-found : tie.Need-rem-found Inv-loop μ-loop
-rem-found c = search needs
+mul-of : tie.Need-mul-of Inv-loop μ-loop
+mul-of c = omega (arith, inverting-fits _ _ _ _ (c .before .before .loop .inv) (search needs))
 
-rem-left : tie.Need-rem-left Inv-loop μ-loop
-rem-left c = search needs
+of-requires : tie.Need-of-requires Inv-loop μ-loop
+of-requires c κs = search needs
+
+mul-left : tie.Need-mul-left Inv-loop μ-loop
+mul-left c = record { fits = lt-of-le-of-lt (div-mul-le-self _ _) (search needs) }
+
+sub-left : tie.Need-sub-left Inv-loop μ-loop
+sub-left c = div-mul-le-self _ _
 
 loop-less : tie.Need-loop-less Inv-loop μ-loop
-loop-less c = mod-lt _ (search needs)
+loop-less c = inverting-less _ _ _ _ (c .before .before .before .loop .inv)
 
 loop-again : tie.Need-loop-again Inv-loop μ-loop
 loop-again c =
-    let start = c .before .before .before .before in
-    let p = start .args .m .p in
-    let k = c .before .loop .left in
-    let low : 0 < k = search needs in
-    let rest : p % k < k = mod-lt p low in (
-      pos-of-ne-zero (start .pre .1 .0 .only k (search needs) (search needs)),
-      omega arith,
-      mod-lt _ (search needs),
-      next (start .args .self .0) (c .before .loop .found) k p low (search needs) (c .before .loop .inv .3),
-    )
-
-cast-t11 : tie.Need-cast-t11 Inv-loop μ-loop
-cast-t11 c = search needs
+    let at = c .before .before .before in
+    rw (c .of .ensures) (inverting-turn _ _ _ _ (at .loop .inv) (at .before .before .pre .1 .0) (search needs))
 
 returns : tie.Need-returns Inv-loop μ-loop
-returns c = record { one = c .before .loop .inv .3 ∙ omega arith; below = c .before .loop .inv .2 }
+returns c = record { one = c .before .loop .inv .is ∙ omega arith; below = c .before .loop .inv .below }
 
 pub inverse-spec : {M : Type 1} → statement M
 inverse-spec =
     tie.close
-    (tie.spec Inv-loop μ-loop cast-left cast-found loop-holds div-found sub-found mul-found rem-found rem-left loop-less loop-again cast-t11 returns)
+    (tie.spec
+    Inv-loop
+    μ-loop
+    cast-left
+    loop-holds
+    div-q
+    cast-of
+    sub-of
+    mul-of
+    of-requires
+    mul-left
+    sub-left
+    loop-less
+    loop-again
+    returns)
