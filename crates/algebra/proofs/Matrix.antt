@@ -7,7 +7,7 @@ use Rattle.algebra.specs.Sum.{sum}
 use Rattle.algebra.specs.Matrix.{Mat, Same, transpose, setrow, product, identity}
 use Rattle.algebra.proofs.Ring as Ring
 use Rattle.algebra.proofs.Cases.{if-equal-same, if-equal-other, if-equal-iff, if-equal-ap}
-use Rattle.algebra.proofs.Sum.{sum-cong, sum-single, sum-swap, sum-mul, mul-sum}
+use Rattle.algebra.proofs.Sum.{sum-cong, sum-add, sum-neg, sum-single, sum-swap, sum-mul, mul-sum}
 
 module _ {F : Type 0} where
   pub same-refl : (n m : ℕ) (A : Mat F) → Same n m A A
@@ -28,8 +28,9 @@ module _ {F : Type 0} where
   setrow-other A r u i ne = if-equal-other i r u (A i) ne
 
 module _ {F : Type 0} (R : CommRing F) where
+  infixl 65 _⊕_
   infixl 70 _⊛_
-  open CommRing R using (mul as _⊛_, 𝟘, 𝟙, mul-comm, mul-assoc)
+  open CommRing R using (add as _⊕_, mul as _⊛_, neg, 𝟘, 𝟙, mul-comm, mul-assoc)
 
   pub identity-same : (i : ℕ) → identity R i i ≡ 𝟙
   unfolding identity
@@ -75,3 +76,11 @@ module _ {F : Type 0} (R : CommRing F) where
   product-identity n m A i j li lj =
       product-turned m A (identity R) (identity R) i j (λ k _. identity-iff k j j k sym sym)
       ∙ identity-product m n (transpose A) j i lj li
+
+  -- (A - 1) B = A B - B
+  pub less-identity-product : (n m : ℕ) (A B : Mat F)
+      → Same n m (product R n (λ i k. A i k ⊕ neg (identity R i k)) B) (λ i j. product R n A B i j ⊕ neg (B i j))
+  unfolding product
+  less-identity-product n m A B i j li lj = simp (Ring.add-mul, Ring.neg-mul)
+      (sum-add R n (λ k. A i k ⊛ B k j) (λ k. neg (identity R i k ⊛ B k j))
+      ∙ ap (λ x. sum R n (λ k. A i k ⊛ B k j) ⊕ x) (sum-neg R n (λ k. identity R i k ⊛ B k j) ∙ ap neg (identity-product n m B i j li lj)))

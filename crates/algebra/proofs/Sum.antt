@@ -37,6 +37,10 @@ module _ {F : Type 0} (R : CommRing F) where
   sum-add zero f g = simp (sum-nil, add-zero)
   sum-add (suc n) f g = simp (sum-suc, sum-add n f g, add-assoc, Ring.add-left-comm R (sum R n g) (f n) (g n))
 
+  pub sum-neg : (n : ℕ) (f : ℕ → F) → sum R n (λ i. neg (f i)) ≡ neg (sum R n f)
+  sum-neg zero f = simp (sum-nil, Ring.neg-zero R)
+  sum-neg (suc n) f = simp (sum-suc, sum-neg n f, Ring.neg-sum R)
+
   pub mul-sum : (n : ℕ) (c : F) (f : ℕ → F) → c ⊛ sum R n f ≡ sum R n (λ i. c ⊛ f i)
   unfolding sum
   mul-sum zero c f = Ring.mul-zero R c

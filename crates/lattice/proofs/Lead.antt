@@ -3,6 +3,7 @@ use mathlib.Core.Path.{_≡_, sym, _∙_, ap, ap₂, subst}
 use mathlib.Core.Logic.{_⊎_, inl, inr}
 use Prim.Native.Nat.{ℕ, suc, _+_, _-_, _≤_, _<_}
 use native.Mathlib.Omega.{arith}
+use native.Mathlib.Decide.{ℕ-discrete}
 use Rattle.algebra.specs.Ring.{CommRing}
 use Rattle.algebra.specs.Field.{Field}
 use Rattle.algebra.specs.Polynomial.{Below, Degree}
@@ -14,7 +15,7 @@ use Rattle.algebra.proofs.Series.{add-at, mul-at}
 use Rattle.algebra.proofs.Polynomial.{lead-mul}
 use Rattle.lattice.specs.Term.{Term, term, up, TermOrder}
 use Rattle.lattice.specs.Row.{Row, coef, Null, plus, scale}
-use Rattle.lattice.specs.Lead.{Lead, Under}
+use Rattle.lattice.specs.Lead.{Lead, Under, LeadsApart}
 
 -- multiplication by x^e keeps the order, so it can be taken back
 unshift : {m : ℕ} (T : TermOrder m) (e : ℕ) (s t : Term) → s .col < m → t .col < m → T .lt (up e s) (up e t) → T .lt s t
@@ -46,6 +47,14 @@ module _ {F : Type 0} (R : CommRing F) {m : ℕ} (T : TermOrder m) where
       go (inl p) = absurd (y .top (x .above t (y .inside) p))
       go (inr (inl p)) = p
       go (inr (inr p)) = absurd (x .top (y .above s (x .inside) p))
+
+  -- where no two rows lead in one column, leading terms in one column are equal
+  pub apart-column : (n : ℕ) (M : ℕ → Row F) → LeadsApart R T n M → (i j : ℕ) → i < n → j < n → (s t : Term)
+      → Lead R T s (M i) → Lead R T t (M j) → s .col ≡ t .col → s ≡ t
+  apart-column n M apart i j li lj s t x y e = elim (ℕ-discrete i j) [
+    | yes w ↦ lead-unique s t (M j) (rw w at x) y
+    | no ne ↦ absurd (apart i j li lj ne s t x y e)
+  ]
 
   pub lead-same : (t : Term) (f g : Row F) → ((u : Term) → u .col < m → coef f u ≡ coef g u) → Lead R T t f → Lead R T t g
   lead-same t f g e x = record {

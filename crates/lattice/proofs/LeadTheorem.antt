@@ -9,7 +9,7 @@ use Rattle.algebra.specs.Field.{Field}
 use Rattle.algebra.specs.Polynomial.{IsPolynomial, Degree}
 use Rattle.algebra.proofs.Polynomial.{degree, degree-unique}
 use Rattle.lattice.specs.Term.{Term, up, TermOrder}
-use Rattle.lattice.specs.Row.{Row, Null, plus, scale, comb}
+use Rattle.lattice.specs.Row.{Row, coef, Null, plus, scale, comb}
 use Rattle.lattice.specs.Lead.{Lead, Under, LeadsApart}
 use Rattle.lattice.proofs.Upto.{extend}
 use Rattle.lattice.proofs.Lead.{lead-unique, lead-same, null-lead, lead-scale, lead-plus, lead-under}
@@ -112,3 +112,15 @@ module _ {F : Type 0} (K : Field F) {m : ℕ} (T : TermOrder m) where
       join h (inl z) d = more n q M w (inl z) h
       join h (inr x) (inl z) = more n q M w (inr z) h
       join h (inr x) (inr d) = inr (both n q M w (x .0) (x .1) (d .0) (d .1) h)
+
+  module _ (n : ℕ) (q : ℕ → ℕ → F) (M : ℕ → Row F) where
+    -- a combination with a leading term has it from the part with the greatest one
+    pub led-lead : Led n q M → (t : Term) → Lead R T t (comb R n q M) → (g : Greatest n q M) × (t ≡ up (g .exp) (g .row))
+    led-lead (inl z) t x = absurd (null-lead R T t _ (comb-null R n m q M z) x)
+    led-lead (inr g) t x = (g, lead-unique R T t _ _ x (g .lead))
+
+    -- a combination with no term at a multiple of the leading term of a row is a zero row
+    pub led-null : Led n q M → ((i : ℕ) → i < n → (t : Term) → Lead R T t (M i) → (a : ℕ) → coef (comb R n q M) (up a t) ≡ R .𝟘)
+        → Null R m (comb R n q M)
+    led-null (inl z) h = comb-null R n m q M z
+    led-null (inr g) h = absurd (g .lead .top (h (g .at) (g .fits) (g .row) (g .row-lead) (g .exp)))

@@ -6,3 +6,9 @@ pub mod Lead
 pub mod LeadTheorem
 pub mod PolynomialMatrix
 pub mod Moves
+pub mod LeftEquivalent
+pub mod Leads
+pub mod RowOrder
+pub mod ReducedBasis
+pub mod Unique
+pub mod Equivalence

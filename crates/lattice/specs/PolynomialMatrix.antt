@@ -1,4 +1,4 @@
--- Matrices of polynomials, the invertible ones among them, and transformed matrices.
+-- Matrices of polynomials, the invertible ones among them, transformed and left-equivalent matrices.
 use Prim.Native.Nat.{ℕ, _<_}
 use Rattle.algebra.specs.Ring.{CommRing}
 use Rattle.algebra.specs.Polynomial.{IsPolynomial}
@@ -27,3 +27,11 @@ module _ {F : Type 0} (R : CommRing F) where
     pub inverse : Inverse n U V′
     pub forth : Same n m (product (series R) n U A) B
     pub back : Same n m (product (series R) n V′ B) A
+
+  -- A and B with n rows and m columns are left-equivalent:
+  -- "a square polynomial matrix with a polynomial inverse, multiplied from the left, turns the one into the other"
+  pub record LeftEquivalent (n m : ℕ) (A B : ℕ → Row F) : Type 0 where
+    pub W : ℕ → Row F
+    pub W′ : ℕ → Row F
+    pub inverse : Inverse n W W′
+    pub carries : Same n m (product (series R) n W A) B

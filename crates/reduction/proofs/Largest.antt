@@ -1,6 +1,6 @@
 -- No more rows of A are independent than are not zero in R; so that number is the rank of A.
 use mathlib.Core.Path.{_≡_, refl, sym, _∙_, ap}
-use mathlib.Core.Logic.{_≢_, inl, inr}
+use mathlib.Core.Logic.{_≢_}
 use Prim.Native.Nat.{ℕ, zero, suc, _≤_, _<_}
 use native.Mathlib.Omega.{arith}
 use Rattle.algebra.specs.Ring.{CommRing}
@@ -18,9 +18,8 @@ use Rattle.lattice.specs.Lead.{Lead}
 use Rattle.lattice.specs.PolynomialMatrix.{AllBounded}
 use Rattle.lattice.proofs.Coefficients.{zero-series, below-zero}
 use Rattle.lattice.proofs.DegreeOverPosition.{degree-over-position}
-use Rattle.lattice.proofs.Lead.{lead-same, lead-unique, null-lead}
-use Rattle.lattice.proofs.Row.{comb-null}
-use Rattle.lattice.proofs.LeadTheorem.{Led}
+use Rattle.lattice.proofs.Lead.{lead-same}
+use Rattle.lattice.proofs.LeadTheorem.{led-lead}
 use Rattle.reduction.specs.Pivot.{values, pivot}
 use Rattle.reduction.specs.Step.{Carried, begin}
 use Rattle.reduction.specs.Rank.{sign, chosen, Independent, IsRank, rank}
@@ -112,7 +111,16 @@ module _ {F : Type 0} (K : Field F) (n m size : ℕ) (A : ℕ → Row F) (u : Ca
       column : pivot m (v (t .R) i) .col ≡ pivot m (v (u .R) at) .col
 
     meets : (i : ℕ) → i < n → 0 < sign (z i) → Meets i
-    meets i l p = go (comb-led K n m size A u h (q i) (q-polynomial i l))
+    meets i l p =
+        let (g, e) = led-lead K T n y (u .R) (comb-led K n m size A u h (q i) (q-polynomial i l)) _ x in
+        let b = h .bounded (g .at) (g .fits) in
+        record {
+          own = own;
+          at = g .at;
+          fits = g .fits;
+          some = lead-some K m size (u .R (g .at)) b (g .row) (g .row-lead);
+          column = ap (λ s. s .col) e ∙ sym (ap (λ s. s .col) (lead-is K m size (u .R (g .at)) b (g .row) (g .row-lead)));
+        }
       where
         own : 0 < v (t .R) i
         own = alive i l (sign-pos (z i) p)
@@ -123,19 +131,6 @@ module _ {F : Type 0} (K : Field F) (n m size : ℕ) (A : ℕ → Row F) (u : Ca
         x : Lead (K .ring) T (pivot m (v (t .R) i)) (comb (K .ring) n y (u .R))
         x = lead-same (K .ring) T _ (t .R i) _ (λ s ls. sym (comb-same-rows K n m size A u h (q i) (q-polynomial i l) s ls ∙ row i l s ls))
             (value-lead K m size (t .R i) (th .bounded i l) own)
-
-        go : Led K T n y (u .R) → Meets i
-        go (inl idle) = absurd (null-lead (K .ring) T _ _ (comb-null (K .ring) n m y (u .R) idle) x)
-        go (inr g) =
-            let b = h .bounded (g .at) (g .fits) in
-            record {
-              own = own;
-              at = g .at;
-              fits = g .fits;
-              some = lead-some K m size (u .R (g .at)) b (g .row) (g .row-lead);
-              column = ap (λ s. s .col) (lead-unique (K .ring) T _ _ _ x (g .lead))
-                  ∙ sym (ap (λ s. s .col) (lead-is K m size (u .R (g .at)) b (g .row) (g .row-lead)));
-            }
 
     few : chosen n z ≤ rank K n m size (u .R)
     few = total-injection n n _ _ (λ i l p. meets i l p .at) (λ i l p. meets i l p .fits)
