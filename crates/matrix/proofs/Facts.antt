@@ -1,5 +1,6 @@
 -- From the promise of `reduce` to the facts that are proved of the reduction.
-use mathlib.Core.Path.{_≡_, sym, ap, _∙_}
+use mathlib.Core.Path.{_≡_, refl, sym, ap, _∙_}
+use mathlib.Core.Bool.{false}
 use mathlib.Core.List.{List}
 use Prim.Native.Nat.{ℕ, _+_, _*_, _^_, _<_}
 use native.Mathlib.Omega.{arith}
@@ -14,10 +15,11 @@ use Rattle.buffers.proofs.Held.{held-matrixOf, held-bounded}
 use Rattle.reduction.specs.Pivot.{values}
 use Rattle.reduction.specs.Rank.{sign}
 use Rattle.reduction.proofs.Facts.{reduction-facts}
+use Rattle.refusals.specs.Refused.{reductionSizes}
+use Rattle.refusals.proofs.Answering.{InOrder, in-order}
 use Rattle.matrix.specs.Reduced.{ReducedBy}
-use Rattle.matrix.specs.Answer.{IsDone, Answered}
+use Rattle.matrix.specs.Answer.{lengths, IsDone, Promised}
 use Rattle.matrix.specs.Facts.{DoneFacts}
-use Rattle.matrix.specs.declared.reducing.Answer.the-variants.{Done}
 use Rattle.matrix.proofs.Loop.{valuesOf}
 use Rattle.matrix.proofs.Value.{value-held}
 
@@ -41,16 +43,20 @@ done-facts p P some n m w a r u v rank count rows columns places size residues d
     same : (i : ℕ) → i < n → sign (valuesOf m w r i) ≡ sign (values (zp-field p P) m w (end .t .R) i)
     same i l = ap sign (sym (value-held p P n m w (end .holding .R) columns i l))
 
--- of every call that is not refused: p is prime then, and the facts hold over Z/p
-pub answered-facts : (p n m d : ℕ) (a r u v r′ u′ v′ : List ℕ) (rank count rows : ℕ)
-    → Answered p n m d a r u v r′ u′ v′ (Done rank count rows)
+-- of every call that is answered by 0: p is prime then, and the facts hold over Z/p
+pub answered-facts : (p n m d : ℕ) (a r u v r′ u′ v′ : List ℕ) (place rank count rows : ℕ)
+    → Promised p n m d a r u v r′ u′ v′ 0 place rank count rows
     → (P : Prime p) × (some : 0 < p) × DoneFacts p P some n m (d + 1) a r′ u′ v′ rank count rows
-answered-facts p n m d a r u v r′ u′ v′ rank count rows (fine, done) = (
-  fine .0 .modulus .prime,
+answered-facts p n m d a r u v r′ u′ v′ place rank count rows promised = (
+  order .numbers .modulus .prime,
   some,
-  done-facts p (fine .0 .modulus .prime) some n m (d + 1) a r′ u′ v′ rank count rows
-      (omega (arith, fine .0 .shape .columns)) (omega arith) (ap (λ (l : List ℕ). getD l 0 0) (fine .1)) (fine .2) done,
+  done-facts p (order .numbers .modulus .prime) some n m (d + 1) a r′ u′ v′ rank count rows
+      (omega (arith, order .numbers .shape .columns)) (omega arith) (ap (λ (l : List ℕ). getD l 0 0) (order .lengths)) (order .residues)
+      (promised .done refl),
 )
   where
+    order : InOrder false p n m d (lengths a r u v) (reductionSizes n m d) a
+    order = in-order refl (promised .told)
+
     some : 0 < p
-    some = omega (arith, fine .0 .modulus .prime .two)
+    some = omega (arith, order .numbers .modulus .prime .two)

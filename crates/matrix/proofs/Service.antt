@@ -1,5 +1,6 @@
 -- From the checks to the reduction, and from its end to the answer.
 use mathlib.Core.Path.{_≡_, refl, sym, ap, subst, _∙_}
+use mathlib.Core.Bool.{false}
 use mathlib.Core.List.{List}
 use Prim.Native.Nat.{ℕ, zero, suc, _+_, _*_, _^_, _<_}
 use native.Mathlib.Omega.{arith}
@@ -13,9 +14,10 @@ use Rattle.rows.specs.Asked.{Square}
 use Rattle.reduction.specs.Pivot.{index}
 use Rattle.reduction.specs.Rank.{sign}
 use Rattle.pivots.specs.Pivot.{Pivots}
-use Rattle.refusals.specs.Refused.{Numbers, Verdict, reductionSizes}
-use Rattle.refusals.specs.declared.Check.the-variants.{Fine}
+use Rattle.refusals.specs.Answering.{Told}
+use Rattle.refusals.specs.Refused.{Numbers, reductionSizes, refusalTable}
 use Rattle.refusals.proofs.Verdicts.{row-few, cell-few, matrix-few}
+use Rattle.refusals.proofs.Answering.{refusal-number, answer-done, InOrder, in-order}
 use Rattle.matrix.specs.Listed.{IsListed}
 use Rattle.matrix.specs.Running.{InputAsked, StartAsked, RunAsked, Ran}
 use Rattle.matrix.specs.Answer.{lengths, IsDone, Answered, AnsweredDone}
@@ -55,14 +57,17 @@ sign-index m (suc v) = refl
 
 -- the rows of non-zero index are those that are not zero
 pub is-done : {p n m w count : ℕ} {a r u v indices : List ℕ} (rank rows : ℕ) → Ran p n m w count a r u v indices
-    → IsListed n (λ i. getD indices i 0) rank rows → IsDone p n m w a r u v rank count rows
-is-done {n = n} {m = m} {w = w} {r = r} {indices = indices} rank rows ran listed = record {
-  reduced = ran .reduced;
-  listed = record {
-    rank-is = listed .rank-is ∙ total-same n _ _ same;
-    rows-are = listed .rows-are ∙ total-same n _ _ (λ i l. ap (λ (s : ℕ). s * 2 ^ i) (same i l));
-  };
-}
+    → IsListed n (λ i. getD indices i 0) rank rows → AnsweredDone p n m w a r u v (Done rank count rows)
+is-done {n = n} {m = m} {w = w} {r = r} {indices = indices} rank rows ran listed = (
+  refl,
+  record {
+    reduced = ran .reduced;
+    listed = record {
+      rank-is = listed .rank-is ∙ total-same n _ _ same;
+      rows-are = listed .rows-are ∙ total-same n _ _ (λ i l. ap (λ (s : ℕ). s * 2 ^ i) (same i l));
+    };
+  },
+)
   where
     same : (i : ℕ) → i < n → sign (getD indices i 0) ≡ sign (valuesOf m w r i)
     same i l = ap sign (ran .indices-are i l) ∙ sign-index m (valuesOf m w r i)
@@ -87,14 +92,14 @@ input-asked {p} {n} {m} {d} numbers size residues q-is ready r-is = record {
 
 -- the checks of the reduction
 pub record Passed (p n m d : ℕ) (a r u v : List ℕ) : Type 0 where
-  pub verdict : Verdict p n m d (lengths a r u v) (reductionSizes n m d) a Fine
+  pub told : Told (refusalTable false p n m d (lengths a r u v) (reductionSizes n m d) a) 0 0
 
 module _ {p n m d : ℕ} {a r u v : List ℕ} (passed : Passed p n m d a r u v) where
-  fine : Verdict p n m d (lengths a r u v) (reductionSizes n m d) a Fine
-  fine = passed .verdict
+  pub order : InOrder false p n m d (lengths a r u v) (reductionSizes n m d) a
+  order = in-order refl (passed .told)
 
   sized : (k : ℕ) → getD (lengths a r u v) k 0 ≡ getD (reductionSizes n m d) k 0
-  sized k = ap (λ (l : List ℕ). getD l k 0) (fine .1)
+  sized k = ap (λ (l : List ℕ). getD l k 0) (order .lengths)
 
   pub copy-fits : length a ≡ length r
   copy-fits = sized 0 ∙ sym (sized 1)
@@ -103,16 +108,16 @@ module _ {p n m d : ℕ} {a r u v : List ℕ} (passed : Passed p n m d a r u v) 
   u-square = record { some = some; size = sized 2 }
     where
       some : 0 < n * (d + 1)
-      some = omega (arith, fine .0 .shape .rows)
+      some = omega (arith, order .numbers .shape .rows)
 
   pub v-square : Square n (d + 1) v
   v-square = record { some = omega arith; size = sized 3 }
 
   pub start-asked : {q reciprocal : ℕ} {r′ u′ v′ : List ℕ} → q ≡ p → Ready q reciprocal → r′ ≡ a → Diagonal n (n * (d + 1)) u′ → Diagonal n (d + 1) v′
       → StartAsked q reciprocal n m (d + 1) r′ u′ v′
-  start-asked q-is ready r-is u-one v-one = record { input = input-asked (fine .0) (sized 0) (fine .2) q-is ready r-is; u-one = u-one; v-one = v-one }
+  start-asked q-is ready r-is u-one v-one = record { input = input-asked (order .numbers) (sized 0) (order .residues) q-is ready r-is; u-one = u-one; v-one = v-one }
 
   pub answered : (q : ℕ) (b r′ u′ v′ : List ℕ) (x : Answer) → q ≡ p → b ≡ a → AnsweredDone q n m (d + 1) b r′ u′ v′ x → Answered p n m d a r u v r′ u′ v′ x
-  answered q b r′ u′ v′ (NotDone x) q-is b-is h = absurd h
+  answered q b r′ u′ v′ (NotDone x) q-is b-is h = absurd (omega (arith, refusal-number x, h .0))
   answered q b r′ u′ v′ (Done rank count rows) q-is b-is h =
-      (fine, subst (λ (t : List ℕ). IsDone p n m (d + 1) t r′ u′ v′ rank count rows) b-is (subst (λ (t : ℕ). IsDone t n m (d + 1) b r′ u′ v′ rank count rows) q-is h))
+      answer-done (passed .told) (subst (λ (t : List ℕ). IsDone p n m (d + 1) t r′ u′ v′ rank count rows) b-is (subst (λ (t : ℕ). IsDone t n m (d + 1) b r′ u′ v′ rank count rows) q-is (h .1)))

@@ -1,8 +1,9 @@
 -- The promises of the services leave one answer only.
 use mathlib.Core.Path.{_≡_, sym, ap, subst, _∙_}
+use mathlib.Core.Bool.{false}
 use mathlib.Core.Logic.{_⊎_, inl, inr}
 use mathlib.Core.List.{List, [], _∷_}
-use Prim.Native.Nat.{ℕ, _*_, _+_}
+use Prim.Native.Nat.{ℕ, _*_}
 use lib.ListN.{length}
 use native.Mathlib.Omega.{arith}
 use Rattle.algebra.specs.Prime.{Prime}
@@ -16,16 +17,15 @@ use Rattle.reduction.specs.Step.{Carried}
 use Rattle.reduction.proofs.Ending.{runs-unique}
 use Rattle.reduction.proofs.Pair.{pair-exclusive}
 use Rattle.pivots.specs.Pivot.{valueOf, rowOf}
-use Rattle.refusals.specs.Refused.{Verdict, reductionSizes, stepSizes}
-use Rattle.refusals.specs.declared.Refusal.{Refusal}
-use Rattle.refusals.specs.declared.Check.{Check}
-use Rattle.refusals.specs.declared.Check.the-variants.{Fine, Refused}
-use Rattle.refusals.proofs.Unique.{verdict-unique}
+use Rattle.refusals.specs.Refused.{reductionSizes, stepSizes}
+use Rattle.refusals.proofs.Answering.{refusal-number, in-order}
+use Rattle.refusals.proofs.Unique.{refusal-same, told-unique, answering-unique}
 use Rattle.matrix.specs.Holding.{Holding}
 use Rattle.matrix.specs.Listed.{maskOf}
 use Rattle.matrix.specs.Reduced.{Reduced}
-use Rattle.matrix.specs.Answer.{lengths, IsDone, Answered}
-use Rattle.matrix.specs.Single.{Stepped, StepAnswered}
+use Rattle.matrix.specs.Answer.{lengths, IsDone, Promised, Answered, numberOf, placeOf, rankOf, countOf, rowsOf}
+use Rattle.matrix.specs.Single.{Stepped, StepPromised, StepAnswered}
+use Rattle.matrix.specs.Single as Single
 use Rattle.matrix.specs.declared.single.StepAnswer.{StepAnswer}
 use Rattle.matrix.specs.declared.single.StepAnswer.the-variants as Step
 use Rattle.matrix.specs.declared.reducing.Answer.{Answer}
@@ -47,42 +47,40 @@ reduced-unique p n m w c c′ a r u v r′ u′ v′ P x y =
     let (same-r, same-u, same-v) = holding-unique (subst (Holding p n m w r u v) ends (f .holding)) (g .holding) in
     (counts, same-r, same-u, same-v)
 
--- so it determines the whole answer, for rank and rows are read off the result
+-- so it determines all that is returned, for rank and rows are read off the result
 done-unique : {p n m w rank count rows rank′ count′ rows′ : ℕ} {a r u v r′ u′ v′ : List ℕ} → Prime p
     → IsDone p n m w a r u v rank count rows → IsDone p n m w a r′ u′ v′ rank′ count′ rows′
-    → (Done rank count rows ≡ Done rank′ count′ rows′) × (r ≡ r′) × (u ≡ u′) × (v ≡ v′)
+    → _≡_ {A = ℕ × ℕ × ℕ × List ℕ × List ℕ × List ℕ} (rank, count, rows, r, u, v) (rank′, count′, rows′, r′, u′, v′)
 done-unique {p} {n} {m} {w} {rank} {count} {rows} {rank′} {count′} {rows′} {a} {r} {u} {v} {r′} {u′} {v′} P x y =
     let (counts, same-r, same-u, same-v) = reduced-unique p n m w count count′ a r u v r′ u′ v′ P (x .reduced) (y .reduced) in
     let z : List ℕ → ℕ → ℕ = λ l i. valueOf m w (rowOf m w l i) in
     let ranks : rank ≡ rank′ = x .listed .rank-is ∙ ap (λ (l : List ℕ). chosen n (z l)) same-r ∙ sym (y .listed .rank-is) in
     let masks : rows ≡ rows′ = x .listed .rows-are ∙ ap (λ (l : List ℕ). maskOf n (z l)) same-r ∙ sym (y .listed .rows-are) in
-    (cc, same-r, same-u, same-v)
+    λ i. (ranks i, counts i, masks i, same-r i, same-u i, same-v i)
 
--- the verdict on a refused call tells which refusal it is
-refused-same : (x y : Refusal) → Refused x ≡ Refused y → x ≡ y
-refused-same x y e = cc
+-- an answer is determined by its numbers
+answer-same : (x y : Answer) → numberOf x ≡ numberOf y → placeOf x ≡ placeOf y → rankOf x ≡ rankOf y → countOf x ≡ countOf y → rowsOf x ≡ rowsOf y → x ≡ y
+answer-same (NotDone x) (NotDone y) numbers places ranks counts masks = ap NotDone (refusal-same x y numbers places)
+answer-same (NotDone x) (Done rank count rows) numbers places ranks counts masks = absurd (omega (arith, refusal-number x))
+answer-same (Done rank count rows) (NotDone y) numbers places ranks counts masks = absurd (omega (arith, refusal-number y))
+answer-same (Done rank count rows) (Done rank′ count′ rows′) numbers places ranks counts masks = cc
 
--- and such a call is not in order
-refused-fine : (x : Refusal) → ¬ (Refused x ≡ Fine)
-refused-fine x e = let z : _≡_ {A = ℕ} 0 1 = cc in omega arith
+module _ (p n m d : ℕ) (a r u v r₁ u₁ v₁ r₂ u₂ v₂ : List ℕ) where
+  -- two answers that the promise allows are equal in every number, and so is every buffer at exit
+  pub promised-unique : {number₁ place₁ rank₁ count₁ rows₁ number₂ place₂ rank₂ count₂ rows₂ : ℕ}
+      → Promised p n m d a r u v r₁ u₁ v₁ number₁ place₁ rank₁ count₁ rows₁ → Promised p n m d a r u v r₂ u₂ v₂ number₂ place₂ rank₂ count₂ rows₂
+      → (number₁ ≡ number₂) × (place₁ ≡ place₂) × (rank₁ ≡ rank₂) × (count₁ ≡ count₂) × (rows₁ ≡ rows₂) × (r₁ ≡ r₂) × (u₁ ≡ u₂) × (v₁ ≡ v₂)
+  promised-unique f g =
+      let (numbers, places, same) = answering-unique (told-unique false p n m d (lengths a r u v) (reductionSizes n m d) a)
+      (λ none. done-unique (in-order {determinant = false} none (f .told) .numbers .modulus .prime)) f g in
+      (numbers, places, (λ i. same i .0), (λ i. same i .1), (λ i. same i .2), (λ i. same i .3), (λ i. same i .4), (λ i. same i .5))
 
-module _ (p n m d : ℕ) (a r u v : List ℕ) where
-  -- the verdict on a call of the reduction
-  abbrev Judged : Check → Type 0
-  Judged = Verdict p n m d (lengths a r u v) (reductionSizes n m d) a
-
-  -- there is only one
-  judged-unique : (x y : Check) → Judged x → Judged y → x ≡ y
-  judged-unique = verdict-unique p n m d (lengths a r u v) (reductionSizes n m d) a
-
-  -- two answers that the promise allows are equal, and so are the buffers at exit
-  pub answered-unique : (r₁ u₁ v₁ r₂ u₂ v₂ : List ℕ) (x y : Answer)
+  -- so the enums are equal
+  pub answered-unique : (x y : Answer)
       → Answered p n m d a r u v r₁ u₁ v₁ x → Answered p n m d a r u v r₂ u₂ v₂ y → (x ≡ y) × (r₁ ≡ r₂) × (u₁ ≡ u₂) × (v₁ ≡ v₂)
-  answered-unique r₁ u₁ v₁ r₂ u₂ v₂ (NotDone x) (NotDone y) (f, r-x, u-x, v-x) (g, r-y, u-y, v-y) =
-      (ap NotDone (refused-same x y (judged-unique (Refused x) (Refused y) f g)), r-x ∙ sym r-y, u-x ∙ sym u-y, v-x ∙ sym v-y)
-  answered-unique r₁ u₁ v₁ r₂ u₂ v₂ (NotDone x) (Done rank count rows) f g = absurd (refused-fine x (judged-unique (Refused x) Fine (f .0) (g .0)))
-  answered-unique r₁ u₁ v₁ r₂ u₂ v₂ (Done rank count rows) (NotDone y) f g = absurd (refused-fine y (judged-unique (Refused y) Fine (g .0) (f .0)))
-  answered-unique r₁ u₁ v₁ r₂ u₂ v₂ (Done rank count rows) (Done rank′ count′ rows′) f g = done-unique (f .0 .0 .modulus .prime) (f .1) (g .1)
+  answered-unique x y f g =
+      let (numbers, places, ranks, counts, rows, same-r, same-u, same-v) = promised-unique f g in
+      (answer-same x y numbers places ranks counts rows, same-r, same-u, same-v)
 
 -- a step is called for or not
 counted-unique : (n m : ℕ) (z : ℕ → ℕ) (c c′ : ℕ) → ((c ≡ 0) × NoPair n m z) ⊎ ((c ≡ 1) × Pair n m z)
@@ -93,24 +91,33 @@ counted-unique n m z c c′ (inr (_, pair)) (inl (_, none)) = absurd (pair-exclu
 counted-unique n m z c c′ (inr (e, _)) (inr (e′, _)) = e ∙ sym e′
 
 -- the input determines the count of the single step and its result
-stepped-unique : (p n m w c c′ : ℕ) (a r r′ : List ℕ) → Prime p → Stepped p n m w c a r → Stepped p n m w c′ a r′ → (c ≡ c′) × (r ≡ r′)
-stepped-unique p n m w c c′ a r r′ P x y =
+stepped-unique : {p n m w c c′ : ℕ} {a r r′ : List ℕ} → Prime p → Stepped p n m w c a r → Stepped p n m w c′ a r′
+    → _≡_ {A = ℕ × List ℕ} (c, r) (c′, r′)
+stepped-unique {p} {n} {m} {w} {c} {c′} P x y =
     let f = x .by P (omega (arith, P .two)) in
     let g = y .by P (omega (arith, P .two)) in
-    (counted-unique n m _ c c′ (f .counted) (g .counted), held-unique (by-rows n m w) p (f .held) (g .held))
+    let counts = counted-unique n m _ c c′ (f .counted) (g .counted) in
+    let results = held-unique (by-rows n m w) p (f .held) (g .held) in
+    λ i. (counts i, results i)
 
-module _ (p n m d : ℕ) (a r : List ℕ) where
-  -- there is one verdict on a call of the single step
-  step-judged-unique : (x y : Check) → Verdict p n m d (length a ∷ length r ∷ []) (stepSizes n m d) a x
-      → Verdict p n m d (length a ∷ length r ∷ []) (stepSizes n m d) a y → x ≡ y
-  step-judged-unique = verdict-unique p n m d (length a ∷ length r ∷ []) (stepSizes n m d) a
+-- its answer is determined by its numbers
+step-answer-same : (x y : StepAnswer) → Single.numberOf x ≡ Single.numberOf y → Single.placeOf x ≡ Single.placeOf y → Single.countOf x ≡ Single.countOf y → x ≡ y
+step-answer-same (Step.NotDone x) (Step.NotDone y) numbers places counts = ap Step.NotDone (refusal-same x y numbers places)
+step-answer-same (Step.NotDone x) (Step.Done c) numbers places counts = absurd (omega (arith, refusal-number x))
+step-answer-same (Step.Done c) (Step.NotDone y) numbers places counts = absurd (omega (arith, refusal-number y))
+step-answer-same (Step.Done c) (Step.Done c′) numbers places counts = ap Step.Done counts
 
-  pub step-answered-unique : (r₁ r₂ : List ℕ) (x y : StepAnswer) → StepAnswered p n m d a r r₁ x → StepAnswered p n m d a r r₂ y
-      → (x ≡ y) × (r₁ ≡ r₂)
-  step-answered-unique r₁ r₂ (Step.NotDone x) (Step.NotDone y) (f, r-x) (g, r-y) =
-      (ap Step.NotDone (refused-same x y (step-judged-unique (Refused x) (Refused y) f g)), r-x ∙ sym r-y)
-  step-answered-unique r₁ r₂ (Step.NotDone x) (Step.Done c) f g = absurd (refused-fine x (step-judged-unique (Refused x) Fine (f .0) (g .0)))
-  step-answered-unique r₁ r₂ (Step.Done c) (Step.NotDone y) f g = absurd (refused-fine y (step-judged-unique (Refused y) Fine (g .0) (f .0)))
-  step-answered-unique r₁ r₂ (Step.Done c) (Step.Done c′) f g =
-      let (counts, results) = stepped-unique p n m (d + 1) c c′ a r₁ r₂ (f .0 .0 .modulus .prime) (f .1) (g .1) in
-      (ap Step.Done counts, results)
+module _ (p n m d : ℕ) (a r r₁ r₂ : List ℕ) where
+  -- two answers that the promise allows are equal in every number, and so is the result at exit
+  pub step-promised-unique : {number₁ place₁ count₁ number₂ place₂ count₂ : ℕ}
+      → StepPromised p n m d a r r₁ number₁ place₁ count₁ → StepPromised p n m d a r r₂ number₂ place₂ count₂
+      → (number₁ ≡ number₂) × (place₁ ≡ place₂) × (count₁ ≡ count₂) × (r₁ ≡ r₂)
+  step-promised-unique f g =
+      let (numbers, places, same) = answering-unique (told-unique false p n m d (length a ∷ length r ∷ []) (stepSizes n m d) a)
+      (λ none. stepped-unique (in-order {determinant = false} none (f .told) .numbers .modulus .prime)) f g in
+      (numbers, places, (λ i. same i .0), (λ i. same i .1))
+
+  -- so the enums are equal
+  pub step-answered-unique : (x y : StepAnswer) → StepAnswered p n m d a r r₁ x → StepAnswered p n m d a r r₂ y → (x ≡ y) × (r₁ ≡ r₂)
+  step-answered-unique x y f g =
+      let (numbers, places, counts, results) = step-promised-unique f g in (step-answer-same x y numbers places counts, results)

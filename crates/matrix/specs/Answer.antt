@@ -1,11 +1,12 @@
 -- The answer of the reduction, and what it promises.
 use mathlib.Core.Path.{_≡_}
+use mathlib.Core.Bool.{false}
 use mathlib.Core.List.{List, [], _∷_}
 use Prim.Native.Nat.{ℕ, _+_}
 use lib.ListN.{length}
 use Rattle.refusals.specs.Number as Refusal
-use Rattle.refusals.specs.Refused.{Verdict, reductionSizes}
-use Rattle.refusals.specs.declared.Check.the-variants.{Fine, Refused}
+use Rattle.refusals.specs.Answering.{Answering}
+use Rattle.refusals.specs.Refused.{reductionSizes, refusalTable}
 use Rattle.pivots.specs.Pivot.{valueOf, rowOf}
 use Rattle.matrix.specs.Listed.{IsListed}
 use Rattle.matrix.specs.Reduced.{Reduced}
@@ -42,15 +43,18 @@ pub record IsDone (p n m w : ℕ) (a r u v : List ℕ) (rank count rows : ℕ) :
   pub reduced : Reduced p n m w count a r u v
   pub listed : IsListed n (λ i. valueOf m w (rowOf m w r i)) rank rows
 
--- the call is refused for the first check that applies, "and every buffer holds what it held at entry"; or all are in
--- order and it is done
-abbrev pub Answered : (p n m d : ℕ) (a r u v r′ u′ v′ : List ℕ) → Answer → Type 0
-Answered p n m d a r u v r′ u′ v′ (NotDone x) =
-    Verdict p n m d (lengths a r u v) (reductionSizes n m d) a (Refused x) × (r′ ≡ r) × (u′ ≡ u) × (v′ ≡ v)
-Answered p n m d a r u v r′ u′ v′ (Done rank count rows) =
-    Verdict p n m d (lengths a r u v) (reductionSizes n m d) a Fine × IsDone p n m (d + 1) a r′ u′ v′ rank count rows
+-- the promise of the reduction, over the numbers that are returned and what the buffers hold at entry and at exit. No determinant
+-- is wanted.
+abbrev pub Promised : (p n m d : ℕ) (a r u v r′ u′ v′ : List ℕ) (number place rank count rows : ℕ) → Type 0
+Promised p n m d a r u v r′ u′ v′ number place rank count rows =
+    Answering (refusalTable false p n m d (lengths a r u v) (reductionSizes n m d) a) number place
+    {Outcome = ℕ × ℕ × ℕ × List ℕ × List ℕ × List ℕ} (rank, count, rows, r′, u′, v′) (0, 0, 0, r, u, v)
+    (IsDone p n m (d + 1) a r′ u′ v′ rank count rows)
 
--- the same of a call that is not refused
+-- the same of an answer, by its numbers
+abbrev pub Answered : (p n m d : ℕ) (a r u v r′ u′ v′ : List ℕ) → Answer → Type 0
+Answered p n m d a r u v r′ u′ v′ x = Promised p n m d a r u v r′ u′ v′ (numberOf x) (placeOf x) (rankOf x) (countOf x) (rowsOf x)
+
+-- and where nothing is refused
 abbrev pub AnsweredDone : (p n m w : ℕ) (a r u v : List ℕ) → Answer → Type 0
-AnsweredDone p n m w a r u v (NotDone x) = ⊥
-AnsweredDone p n m w a r u v (Done rank count rows) = IsDone p n m w a r u v rank count rows
+AnsweredDone p n m w a r u v x = (numberOf x ≡ 0) × IsDone p n m w a r u v (rankOf x) (countOf x) (rowsOf x)

@@ -1,5 +1,6 @@
 -- The single step, its answer, and what that promises.
 use mathlib.Core.Path.{_≡_}
+use mathlib.Core.Bool.{false}
 use mathlib.Core.Logic.{_⊎_}
 use mathlib.Core.List.{List, [], _∷_}
 use Prim.Native.Nat.{ℕ, _+_, _<_}
@@ -12,8 +13,8 @@ use Rattle.reduction.specs.Pivot.{values}
 use Rattle.reduction.specs.Pair.{Pair, NoPair}
 use Rattle.reduction.specs.Run.{step}
 use Rattle.refusals.specs.Number as Refusal
-use Rattle.refusals.specs.Refused.{Verdict, stepSizes}
-use Rattle.refusals.specs.declared.Check.the-variants.{Fine, Refused}
+use Rattle.refusals.specs.Answering.{Answering}
+use Rattle.refusals.specs.Refused.{stepSizes, refusalTable}
 use Rattle.matrix.specs.declared.single.StepAnswer.{StepAnswer}
 use Rattle.matrix.specs.declared.single.StepAnswer.the-variants.{NotDone, Done}
 
@@ -40,7 +41,12 @@ abbrev pub countOf : StepAnswer → ℕ
 countOf (NotDone x) = 0
 countOf (Done count) = count
 
--- the call is refused for the first check that applies, and the result holds what it held; or the step is made
+-- the promise of the single step, over the numbers that are returned and what the result holds at entry and at exit
+abbrev pub StepPromised : (p n m d : ℕ) (a r r′ : List ℕ) (number place count : ℕ) → Type 0
+StepPromised p n m d a r r′ number place count =
+    Answering (refusalTable false p n m d (length a ∷ length r ∷ []) (stepSizes n m d) a) number place
+    {Outcome = ℕ × List ℕ} (count, r′) (0, r) (Stepped p n m (d + 1) count a r′)
+
+-- the same of an answer, by its numbers
 abbrev pub StepAnswered : (p n m d : ℕ) (a r r′ : List ℕ) → StepAnswer → Type 0
-StepAnswered p n m d a r r′ (NotDone x) = Verdict p n m d (length a ∷ length r ∷ []) (stepSizes n m d) a (Refused x) × (r′ ≡ r)
-StepAnswered p n m d a r r′ (Done count) = Verdict p n m d (length a ∷ length r ∷ []) (stepSizes n m d) a Fine × Stepped p n m (d + 1) count a r′
+StepAnswered p n m d a r r′ x = StepPromised p n m d a r r′ (numberOf x) (placeOf x) (countOf x)

@@ -1,41 +1,42 @@
 -- The replies to calls that are refused and to calls that are done.
-use mathlib.Core.Path.{_≡_, refl, subst}
+use mathlib.Core.Path.{_≡_, refl, subst, subst⁻¹}
 use mathlib.Core.List.{List}
 use Prim.Native.Nat.{ℕ}
-use Rattle.matrix.specs.declared.reducing.Answer.{Answer}
-use Rattle.matrix.specs.declared.reducing.Answer.the-variants.{NotDone, Done}
 use Rattle.refusals.specs.declared.Refusal.{Refusal}
 use Rattle.refusals.specs.Number.{numberOf, placeOf}
+use Rattle.matrix.specs.declared.reducing.Answer.{Answer}
+use Rattle.matrix.specs.declared.reducing.Answer.the-variants.{NotDone, Done}
 use Rattle.matrix.specs.Answer.{Answered}
 use Rattle.matrix.specs.declared.single.StepAnswer.{StepAnswer}
 use Rattle.matrix.specs.declared.single.StepAnswer.the-variants as Step
 use Rattle.matrix.specs.Single.{StepAnswered}
+use Rattle.moorbesen.specs.declared.Reply.{Reply}
 use Rattle.moorbesen.specs.Reply.{Refusing, Replied, StepReplied}
 
-pub replied-refused : {p n m d : ℕ} {a r u v r′ u′ v′ : List ℕ} {number place rank count rows : ℕ} (x : Answer) (y : Refusal) → x ≡ NotDone y
-    → Answered p n m d a r u v r′ u′ v′ x → Refusing (numberOf y) (placeOf y) number place rank count rows
-    → Replied p n m d a r u v r′ u′ v′ number place rank count rows
-replied-refused {p} {n} {m} {d} {a} {r} {u} {v} {r′} {u′} {v′} x y e h tells =
-    record { answer = NotDone y; answered = subst (Answered p n m d a r u v r′ u′ v′) e h; tells = tells }
+-- the reply to a refused call
+abbrev refusal : (number place : ℕ) → Reply
+refusal number place = record { number = number; place = place; rank = 0; count = 0; rows = 0 }
 
-pub replied-done : {p n m d : ℕ} {a r u v r′ u′ v′ : List ℕ} {rank count rows : ℕ} (x : Answer) → x ≡ Done rank count rows
-    → Answered p n m d a r u v r′ u′ v′ x → Replied p n m d a r u v r′ u′ v′ 0 0 rank count rows
-replied-done {p} {n} {m} {d} {a} {r} {u} {v} {r′} {u′} {v′} {rank} {count} {rows} x e h = record {
-  answer = Done rank count rows;
-  answered = subst (Answered p n m d a r u v r′ u′ v′) e h;
-  tells = record { number-is = refl; place-is = refl; rank-is = refl; count-is = refl; rows-are = refl };
-}
+refused-is : {number place : ℕ} {x : Reply} → Refusing number place x → x ≡ refusal number place
+refused-is h = λ i. record { number = h .number-is i; place = h .place-is i; rank = h .rank-is i; count = h .count-is i; rows = h .rows-are i }
 
-pub step-replied-refused : {p n m d : ℕ} {a r r′ : List ℕ} {number place rank count rows : ℕ} (x : StepAnswer) (y : Refusal) → x ≡ Step.NotDone y
-    → StepAnswered p n m d a r r′ x → Refusing (numberOf y) (placeOf y) number place rank count rows
-    → StepReplied p n m d a r r′ number place rank count rows
-step-replied-refused {p} {n} {m} {d} {a} {r} {r′} x y e h tells =
-    record { answer = Step.NotDone y; answered = subst (StepAnswered p n m d a r r′) e h; tells = tells }
+-- of the reduction
+module _ {p n m d : ℕ} {a r u v r′ u′ v′ : List ℕ} where
+  pub replied-refused : (x : Answer) (y : Refusal) (z : Reply) → x ≡ NotDone y → Refusing (numberOf y) (placeOf y) z
+      → Answered p n m d a r u v r′ u′ v′ x → Replied p n m d a r u v r′ u′ v′ z
+  replied-refused x y z x-is refusing h = subst⁻¹ (Replied p n m d a r u v r′ u′ v′) (refused-is refusing) (subst (Answered p n m d a r u v r′ u′ v′) x-is h)
 
-pub step-replied-done : {p n m d : ℕ} {a r r′ : List ℕ} {count : ℕ} (x : StepAnswer) → x ≡ Step.Done count
-    → StepAnswered p n m d a r r′ x → StepReplied p n m d a r r′ 0 0 0 count 0
-step-replied-done {p} {n} {m} {d} {a} {r} {r′} {count} x e h = record {
-  answer = Step.Done count;
-  answered = subst (StepAnswered p n m d a r r′) e h;
-  tells = record { number-is = refl; place-is = refl; rank-is = refl; count-is = refl; rows-are = refl };
-}
+  pub replied-done : {rank count rows : ℕ} (x : Answer) → x ≡ Done rank count rows → Answered p n m d a r u v r′ u′ v′ x
+      → Replied p n m d a r u v r′ u′ v′ (record { number = 0; place = 0; rank = rank; count = count; rows = rows })
+  replied-done x x-is h = subst (Answered p n m d a r u v r′ u′ v′) x-is h
+
+-- of the single step
+module _ {p n m d : ℕ} {a r r′ : List ℕ} where
+  pub step-replied-refused : (x : StepAnswer) (y : Refusal) (z : Reply) → x ≡ Step.NotDone y → Refusing (numberOf y) (placeOf y) z
+      → StepAnswered p n m d a r r′ x → StepReplied p n m d a r r′ z
+  step-replied-refused x y z x-is refusing h =
+      subst⁻¹ (StepReplied p n m d a r r′) (refused-is refusing) (subst (StepAnswered p n m d a r r′) x-is h, refl, refl)
+
+  pub step-replied-done : {count : ℕ} (x : StepAnswer) → x ≡ Step.Done count → StepAnswered p n m d a r r′ x
+      → StepReplied p n m d a r r′ (record { number = 0; place = 0; rank = 0; count = count; rows = 0 })
+  step-replied-done x x-is h = (subst (StepAnswered p n m d a r r′) x-is h, refl, refl)

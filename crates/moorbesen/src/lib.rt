@@ -18,7 +18,7 @@ pub struct Reply {
 }
 
 fn refusal(number: usize, place: usize) -> Reply
-    ensures { λ x. ⌜ Refusing number place (x .number) (x .place) (x .rank) (x .count) (x .rows) ⌝ }
+    ensures { λ x. ⌜ Refusing number place x ⌝ }
 {
     Reply {
         number,
@@ -30,12 +30,13 @@ fn refusal(number: usize, place: usize) -> Reply
 }
 
 fn refused(x: Refusal) -> Reply
-    ensures { λ y. ⌜ Refusing (numberOf x) (placeOf x) (y .number) (y .place) (y .rank) (y .count) (y .rows) ⌝ }
+    ensures { λ y. ⌜ Refusing (numberOf x) (placeOf x) y ⌝ }
 {
     match x {
         Refusal::Modulus => refusal(1, 0),
         Refusal::Shape => refusal(2, 0),
         Refusal::Degree => refusal(3, 0),
+        Refusal::Square => refusal(4, 0),
         Refusal::Length(k) => refusal(5, k),
         Refusal::Coefficient(i) => refusal(6, i),
     }
@@ -52,7 +53,7 @@ pub extern "C" fn moorbesen_reduce(
     u: &mut [u16],
     v: &mut [u16],
 ) -> Reply
-    ensures { λ x. ⌜ Replied p n m d (now (a .entry)) (now (r .entry)) (now (u .entry)) (now (v .entry)) (now (r .exit)) (now (u .exit)) (now (v .exit)) (x .number) (x .place) (x .rank) (x .count) (x .rows) ⌝ }
+    ensures { λ x. ⌜ Replied p n m d (now (a .entry)) (now (r .entry)) (now (u .entry)) (now (v .entry)) (now (r .exit)) (now (u .exit)) (now (v .exit)) x ⌝ }
 {
     match reducing::reduce(p, n, m, d, a, r, u, v) {
         Answer::NotDone(x) => refused(x),
@@ -76,7 +77,7 @@ pub extern "C" fn moorbesen_step(
     a: &[u16],
     r: &mut [u16],
 ) -> Reply
-    ensures { λ x. ⌜ StepReplied p n m d (now (a .entry)) (now (r .entry)) (now (r .exit)) (x .number) (x .place) (x .rank) (x .count) (x .rows) ⌝ }
+    ensures { λ x. ⌜ StepReplied p n m d (now (a .entry)) (now (r .entry)) (now (r .exit)) x ⌝ }
 {
     match single::step(p, n, m, d, a, r) {
         StepAnswer::NotDone(x) => refused(x),

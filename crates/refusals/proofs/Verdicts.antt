@@ -1,15 +1,16 @@
 -- From the parts of the checks to the verdict of the whole.
-use mathlib.Core.Path.{_≡_, refl, sym, subst}
-use mathlib.Core.Logic.{_≢_}
+use mathlib.Core.Path.{_≡_, refl, ap}
+use mathlib.Core.Bool.{Bool}
+use mathlib.Core.Logic.{_≢_, inl, inr}
 use mathlib.Core.List.{List, _∷_}
 use Prim.Native.Nat.{ℕ, zero, suc, _+_, _*_, _≤_, _<_}
 use native.Mathlib.Nat.{mul-le-mul}
 use native.Mathlib.Omega.{arith}
-use lib.ListN.{length, getD}
-use Rattle.refusals.specs.Refused.{InShape, Numbers, FirstWrong, FirstHigh, Verdict}
-use Rattle.refusals.specs.Part.{OfCoefficients}
-use Rattle.refusals.specs.declared.Refusal.{Refusal}
-use Rattle.refusals.specs.declared.Check.{Check}
+use lib.ListN.{length, drop, getD}
+use Rattle.poly.specs.Polynomial.{Coefficients}
+use Rattle.refusals.specs.Answering.{Told}
+use Rattle.refusals.specs.Refused.{Numbers, InSquare, FirstWrong, FirstHigh, refusalTable, Verdict}
+use Rattle.refusals.specs.declared.Refusal.the-variants.{Length, Coefficient}
 use Rattle.refusals.specs.declared.Check.the-variants.{Fine, Refused}
 
 -- the first buffer is wrong, or it is right and the first wrong one comes later
@@ -28,11 +29,26 @@ wrong-later a x k given wanted e h = record {
     earlier zero l = e
     earlier (suc j) l = h .before j (omega arith)
 
--- where all lengths are right the coefficients decide
-pub by-coefficients : (p n m d : ℕ) (given wanted a : List ℕ) (c : Check) → Numbers p n m d → given ≡ wanted → OfCoefficients p a c → Verdict p n m d given wanted a c
-by-coefficients p n m d given wanted a Fine numbers same h = (numbers, same, h)
-by-coefficients p n m d given wanted a (Refused x) numbers same (i, e, fits, first) =
-    subst (λ (y : Refusal). Verdict p n m d given wanted a (Refused y)) (sym e) (numbers, same, fits, first)
+module _ (determinant : Bool) (p n m d : ℕ) (given wanted a : List ℕ) (numbers : Numbers p n m d) (square : InSquare determinant n m) where
+  -- where the numbers are in range the rows after the first four decide
+  past-numbers : (k i : ℕ) → Told (drop 4 (refusalTable determinant p n m d given wanted a)) k i
+      → Told (refusalTable determinant p n m d given wanted a) k i
+  past-numbers k i h = inr (numbers .modulus, inr (numbers .shape, inr (numbers .degree, inr (square, h))))
+
+  -- the refusal for a buffer's length
+  pub wrong-length : (k : ℕ) → FirstWrong given wanted k → Verdict determinant p n m d given wanted a (Refused (Length k))
+  wrong-length k first =
+      past-numbers 5 k (inl ((λ same. first .wrong (ap (λ (l : List ℕ). getD l (first .at) 0) same)), refl, first))
+
+  -- the refusal for a coefficient
+  pub high-coefficient : (i : ℕ) → given ≡ wanted → i < length a → FirstHigh p a i
+      → Verdict determinant p n m d given wanted a (Refused (Coefficient i))
+  high-coefficient i same within first =
+      past-numbers 6 i (inr (same, inl ((λ residues. omega (arith, first .high within, residues .below i within)), refl, first)))
+
+  -- nothing is refused
+  pub all-right : given ≡ wanted → Coefficients p a → Verdict determinant p n m d given wanted a Fine
+  all-right same residues = past-numbers 0 0 (inr (same, inr (residues, (refl, refl))))
 
 -- the places of a matrix, of U and of V are few
 module _ (p n m d : ℕ) (h : Numbers p n m d) where

@@ -1,3 +1,4 @@
 pub mod Number
+pub mod Answering
 pub mod Refused
 pub mod Part

@@ -1,15 +1,15 @@
--- When a call is refused: "Checks run in this order and the first that applies is the answer. It is given then and never otherwise."
+-- When a call is refused: the refusal table, and what it speaks of.
 use mathlib.Core.Path.{_≡_}
+use mathlib.Core.Bool.{Bool, true, false}
 use mathlib.Core.Logic.{_≢_}
 use mathlib.Core.List.{List, [], _∷_}
 use Prim.Native.Nat.{ℕ, _+_, _*_, _≤_, _<_}
 use lib.ListN.{length, getD}
 use Rattle.poly.specs.Modulus.{Accepted}
 use Rattle.poly.specs.Polynomial.{Coefficients}
-use Rattle.refusals.specs.declared.Refusal.{Refusal}
-use Rattle.refusals.specs.declared.Refusal.the-variants.{Modulus, Shape, Degree, Length, Coefficient}
+use Rattle.refusals.specs.Answering.{Row, Told}
+use Rattle.refusals.specs.Number.{checkNumber, checkPlace}
 use Rattle.refusals.specs.declared.Check.{Check}
-use Rattle.refusals.specs.declared.Check.the-variants.{Fine, Refused}
 
 -- "rows n, columns m: 1 to 8 each"
 pub record InShape (n m : ℕ) : Type 0 where
@@ -21,6 +21,11 @@ pub record InShape (n m : ℕ) : Type 0 where
 -- "degree limit d: 0 to 63"
 abbrev pub InDegree : ℕ → Type 0
 InDegree d = d ≤ 63
+
+-- "determinant wanted": n and m may not differ then
+abbrev pub InSquare : (determinant : Bool) (n m : ℕ) → Type 0
+InSquare true n m = n ≡ m
+InSquare false n m = Unit
 
 -- the numbers that a call is given are all in range
 pub record Numbers (p n m d : ℕ) : Type 0 where
@@ -43,17 +48,34 @@ pub record FirstWrong (given wanted : List ℕ) (k : ℕ) : Type 0 where
   pub wrong : getD given at 0 ≢ getD wanted at 0
   pub before : (j : ℕ) → j < at → getD given j 0 ≡ getD wanted j 0
 
--- i is the index of the first coefficient that is p or more, or the number of places
+-- i is the index of the first coefficient that is p or more, or the number of places where there is none
 pub record FirstHigh (p : ℕ) (a : List ℕ) (i : ℕ) : Type 0 where
   pub within : i ≤ length a
   pub high : i < length a → p ≤ getD a i 0
   pub before : (j : ℕ) → j < i → getD a j 0 < p
 
--- the verdict on a call with these numbers, lengths of buffers and input coefficients
-abbrev pub Verdict : (p n m d : ℕ) (given wanted a : List ℕ) → Check → Type 0
-Verdict p n m d given wanted a Fine = Numbers p n m d × (given ≡ wanted) × Coefficients p a
-Verdict p n m d given wanted a (Refused Modulus) = ¬ (Accepted p)
-Verdict p n m d given wanted a (Refused Shape) = Accepted p × (¬ (InShape n m))
-Verdict p n m d given wanted a (Refused Degree) = Accepted p × InShape n m × (¬ (InDegree d))
-Verdict p n m d given wanted a (Refused (Length k)) = Numbers p n m d × FirstWrong given wanted k
-Verdict p n m d given wanted a (Refused (Coefficient i)) = Numbers p n m d × (given ≡ wanted) × (i < length a) × FirstHigh p a i
+-- the place 0
+abbrev pub Zero : ℕ → Type 0
+Zero place = place ≡ 0
+
+-- The refusal table: each number, what has to hold lest it is returned, and the place. `given` are the lengths of the
+-- buffers, `wanted` those that they should have, and a is the input.
+abbrev pub refusalTable : (determinant : Bool) (p n m d : ℕ) (given wanted a : List ℕ) → List Row
+refusalTable determinant p n m d given wanted a =
+    -- "p is not a prime in 2 to 65,521", place 0
+    (1, Accepted p, Zero) ∷
+    -- "n or m outside 1 to 8", place 0
+    (2, InShape n m, Zero) ∷
+    -- "d outside 0 to 63", place 0
+    (3, InDegree d, Zero) ∷
+    -- "determinant wanted, n and m differ", place 0
+    (4, InSquare determinant n m, Zero) ∷
+    -- "a buffer's length is not the table's", place "the first such buffer, counted from 1"
+    (5, given ≡ wanted, FirstWrong given wanted) ∷
+    -- "an input coefficient is p or more", place "its index, counted from 0, first one"
+    (6, Coefficients p a, FirstHigh p a) ∷
+    []
+
+-- what the checks say, by the table
+abbrev pub Verdict : (determinant : Bool) (p n m d : ℕ) (given wanted a : List ℕ) → Check → Type 0
+Verdict determinant p n m d given wanted a c = Told (refusalTable determinant p n m d given wanted a) (checkNumber c) (checkPlace c)

@@ -1,7 +1,7 @@
 // Which calls are refused, and why: the checks in the paper's order. Nothing is written here, so that every buffer of a
 // refused call holds what it held.
 ghost use mathlib.Core.Path.{_≡_};
-ghost use mathlib.Core.Bool.{true};
+ghost use mathlib.Core.Bool.{true, false};
 ghost use mathlib.Core.Logic.{_↔_};
 ghost use Prim.Native.Nat.{_+_, _*_, _≤_};
 ghost use mathlib.Core.List.{[], _∷_};
@@ -14,6 +14,8 @@ pub enum Refusal {
     Modulus,
     Shape,
     Degree,
+    // Determinant wanted, n and m differ.
+    Square,
     Length(usize),
     Coefficient(usize),
 }
@@ -102,7 +104,7 @@ fn check_coefficients(a: &[u16], p: u32) -> Check
 
 // The checks of the single step, whose result has r places.
 pub fn check_step(p: u32, n: usize, m: usize, d: usize, a: &[u16], r: usize) -> Check
-    ensures { λ c. ⌜ Verdict p n m d (length (now (a .entry)) ∷ r ∷ []) (stepSizes n m d) (now (a .entry)) c ⌝ }
+    ensures { λ c. ⌜ Verdict false p n m d (length (now (a .entry)) ∷ r ∷ []) (stepSizes n m d) (now (a .entry)) c ⌝ }
 {
     if let Check::Refused(x) = check_matrix(p, n, m, d, a.len(), r) {
         return Check::Refused(x);
@@ -121,7 +123,7 @@ pub fn check_reduction(
     u: usize,
     v: usize,
 ) -> Check
-    ensures { λ c. ⌜ Verdict p n m d (length (now (a .entry)) ∷ r ∷ u ∷ v ∷ []) (reductionSizes n m d) (now (a .entry)) c ⌝ }
+    ensures { λ c. ⌜ Verdict false p n m d (length (now (a .entry)) ∷ r ∷ u ∷ v ∷ []) (reductionSizes n m d) (now (a .entry)) c ⌝ }
 {
     if let Check::Refused(x) = check_matrix(p, n, m, d, a.len(), r) {
         return Check::Refused(x);

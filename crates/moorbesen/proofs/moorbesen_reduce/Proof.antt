@@ -25,7 +25,9 @@ same-length-3 : tie.Need-same-length-3
 same-length-3 c = search needs
 
 returns : tie.Need-returns
-returns c = replied-refused (c .before .before .before .before .before .before .before .before .before .before .reduce .result) _ (c .before .before .x .given .1) (c .before .before .before .before .before .before .before .before .before .before .reduce .ensures) (c .refused .ensures)
+returns c =
+    let reduced = c .before .before .before .before .before .before .before .before .before .before in
+    replied-refused (reduced .reduce .result) _ (c .refused .result) (c .before .before .x .given .1) (c .refused .ensures) (reduced .reduce .ensures)
 
 same-length-4 : tie.Need-same-length-4
 same-length-4 c = search needs
@@ -37,7 +39,9 @@ same-length-6 : tie.Need-same-length-6
 same-length-6 c = search needs
 
 returns-2 : tie.Need-returns-2
-returns-2 c = replied-done (c .before .before .before .before .before .before .before .before .before .reduce .result) (c .before .rank .given .1) (c .before .before .before .before .before .before .before .before .before .reduce .ensures)
+returns-2 c =
+    let reduced = c .before .before .before .before .before .before .before .before .before in
+    replied-done (reduced .reduce .result) (c .before .rank .given .1) (reduced .reduce .ensures)
 
 pub moorbesen-reduce-spec : {M : Type 1} → statement M
 moorbesen-reduce-spec =

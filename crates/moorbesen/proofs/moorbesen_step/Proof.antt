@@ -19,13 +19,17 @@ same-length : tie.Need-same-length
 same-length c = search needs
 
 returns : tie.Need-returns
-returns c = step-replied-refused (c .before .before .before .before .before .before .step .result) _ (c .before .before .x .given .1) (c .before .before .before .before .before .before .step .ensures) (c .refused .ensures)
+returns c =
+    let stepped = c .before .before .before .before .before .before in
+    step-replied-refused (stepped .step .result) _ (c .refused .result) (c .before .before .x .given .1) (c .refused .ensures) (stepped .step .ensures)
 
 same-length-2 : tie.Need-same-length-2
 same-length-2 c = search needs
 
 returns-2 : tie.Need-returns-2
-returns-2 c = step-replied-done (c .before .before .before .before .before .step .result) (c .before .count .given .1) (c .before .before .before .before .before .step .ensures)
+returns-2 c =
+    let stepped = c .before .before .before .before .before in
+    step-replied-done (stepped .step .result) (c .before .count .given .1) (stepped .step .ensures)
 
 pub moorbesen-step-spec : {M : Type 1} → statement M
 moorbesen-step-spec =

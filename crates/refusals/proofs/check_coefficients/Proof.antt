@@ -1,5 +1,6 @@
 use native.Mathlib.Omega.{arith}
 use borrow.Author.Needs.{needs}
+use Rattle.refusals.proofs.Verdicts.{high-coefficient, all-right}
 use Rattle.refusals.proofs.check_coefficients.Statement.{statement}
 use Rattle.refusals.proofs.check_coefficients.Tie as tie
 
@@ -7,10 +8,12 @@ first-high-requires : tie.Need-first-high-requires
 first-high-requires c κs = search needs
 
 returns : tie.Need-returns
-returns c = search needs
+returns c = λ determinant n m d given wanted numbers square same.
+    high-coefficient determinant _ _ _ _ _ _ _ numbers square _ same (c .if1 .taken) (c .before .first-high .ensures)
 
 returns-2 : tie.Need-returns-2
-returns-2 c = record { below = λ i h. c .before .first-high .ensures .before i (omega arith) }
+returns-2 c = λ determinant n m d given wanted numbers square same.
+    all-right determinant _ _ _ _ _ _ _ numbers square same record { below = λ i h. c .before .first-high .ensures .before i (omega arith) }
 
 pub check-coefficients-spec : {M : Type 1} → statement M
 check-coefficients-spec = tie.close (tie.spec first-high-requires returns returns-2)

@@ -1,9 +1,10 @@
 use native.Mathlib.Omega.{arith}
 use borrow.Author.Needs.{needs}
 use mathlib.Core.Path.{subst}
+use mathlib.Core.Bool.{false}
 use Rattle.refusals.specs.Refused.{Numbers}
 use Rattle.refusals.specs.Part.{OfNumbers}
-use Rattle.refusals.proofs.Verdicts.{wrong-here, wrong-later, row-few, matrix-few}
+use Rattle.refusals.proofs.Verdicts.{wrong-here, wrong-later, wrong-length, row-few, matrix-few}
 use Rattle.refusals.proofs.check_matrix.Statement.{statement}
 use Rattle.refusals.proofs.check_matrix.Tie as tie
 
@@ -18,7 +19,7 @@ enum-known-x : tie.Need-enum-known-x
 enum-known-x c = search needs
 
 returns : tie.Need-returns
-returns c = λ given wanted l. subst (OfNumbers _ _ _ _) (c .before .x .given .1) (c .before .before .before .check-numbers .ensures) _ _ _
+returns c = λ given wanted l. subst (OfNumbers _ _ _ _) (c .before .x .given .1) (c .before .before .before .check-numbers .ensures) false _ _ _
 
 enum-told : tie.Need-enum-told
 enum-told c = search needs
@@ -33,10 +34,11 @@ mul-places-2 : tie.Need-mul-places-2
 mul-places-2 c = omega (arith, matrix-few _ _ _ _ (numbers c))
 
 returns-2 : tie.Need-returns-2
-returns-2 c = λ given wanted l. (numbers (c .before), wrong-here _ _ _ _ (c .if1 .taken))
+returns-2 c = λ given wanted l. wrong-length false _ _ _ _ _ _ l (numbers (c .before)) tt 1 (wrong-here _ _ _ _ (c .if1 .taken))
 
 returns-3 : tie.Need-returns-3
-returns-3 c = λ given wanted l. (numbers (c .before .before), wrong-later _ _ 1 _ _ (c .before .if1 .left) (wrong-here _ _ _ _ (c .if2 .taken)))
+returns-3 c = λ given wanted l. wrong-length false _ _ _ _ _ _ l (numbers (c .before .before)) tt 2
+    (wrong-later _ _ 1 _ _ (c .before .if1 .left) (wrong-here _ _ _ _ (c .if2 .taken)))
 
 returns-4 : tie.Need-returns-4
 returns-4 c = (numbers (c .before .before), c .before .if1 .left, c .if2 .left)

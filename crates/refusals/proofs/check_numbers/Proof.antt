@@ -1,5 +1,7 @@
 use native.Mathlib.Omega.{arith}
 use borrow.Author.Needs.{needs}
+use mathlib.Core.Path.{refl}
+use mathlib.Core.Logic.{inl, inr}
 use borrow.Author.Tests.{not-true, not-false}
 use Rattle.algebra.proofs.Flag.{denied}
 use Prim.Native.Nat.{_≤_}
@@ -28,22 +30,31 @@ accepts-requires : tie.Need-accepts-requires
 accepts-requires c κs = search needs
 
 returns : tie.Need-returns
-returns c = λ given wanted a. denied (c .before .accepts .ensures) (not-true _ (c .if1 .taken))
+returns c = λ determinant given wanted a. inl (denied (c .before .accepts .ensures) (not-true _ (c .if1 .taken)), refl, refl)
 
 one-to-eight-requires : tie.Need-one-to-eight-requires
 one-to-eight-requires c κs = search needs
 
 returns-2 : tie.Need-returns-2
-returns-2 c = λ given wanted a. (accepted (c .before .before), λ s. denied (c .before .one-to-eight .ensures) (not-true _ (c .if2 .taken)) (s .rows, s .rows-most))
+returns-2 c = λ determinant given wanted a. inr (
+  accepted (c .before .before),
+  inl ((λ s. denied (c .before .one-to-eight .ensures) (not-true _ (c .if2 .taken)) (s .rows, s .rows-most)), refl, refl),
+)
 
 one-to-eight-requires-2 : tie.Need-one-to-eight-requires-2
 one-to-eight-requires-2 c κs = search needs
 
 returns-3 : tie.Need-returns-3
-returns-3 c = λ given wanted a. (accepted (c .before .before .before .before), λ s. denied (c .before .one-to-eight2 .ensures) (not-true _ (c .if3 .taken)) (s .columns, s .columns-most))
+returns-3 c = λ determinant given wanted a. inr (
+  accepted (c .before .before .before .before),
+  inl ((λ s. denied (c .before .one-to-eight2 .ensures) (not-true _ (c .if3 .taken)) (s .columns, s .columns-most)), refl, refl),
+)
 
 returns-4 : tie.Need-returns-4
-returns-4 c = λ given wanted a. (accepted (c .before .before .before .before .before), shape (c .before), λ h. omega (arith, c .if4 .taken, h))
+returns-4 c = λ determinant given wanted a. inr (
+  accepted (c .before .before .before .before .before),
+  inr (shape (c .before), inl ((λ h. omega (arith, c .if4 .taken, h)), refl, refl)),
+)
 
 returns-5 : tie.Need-returns-5
 returns-5 c = record { modulus = accepted (c .before .before .before .before .before); shape = shape (c .before); degree = c .if4 .left }

@@ -1,12 +1,13 @@
 use native.Mathlib.Omega.{arith}
 use borrow.Author.Needs.{needs}
 use mathlib.Core.Path.{refl, subst, ap₂}
+use mathlib.Core.Bool.{false}
 use mathlib.Core.List.{_∷_}
 use denote.Ref.{now}
 use lib.ListN.{length}
 use Rattle.refusals.specs.Part.{OfMatrix}
 use Rattle.refusals.specs.declared.Check.the-variants.{Fine}
-use Rattle.refusals.proofs.Verdicts.{wrong-here, wrong-later, by-coefficients, cell-few, square-few, transform-few}
+use Rattle.refusals.proofs.Verdicts.{wrong-here, wrong-later, wrong-length, cell-few, square-few, transform-few}
 use Rattle.refusals.proofs.check_reduction.Statement.{statement}
 use Rattle.refusals.proofs.check_reduction.Tie as tie
 
@@ -41,7 +42,7 @@ mul-if1-2 c = omega (arith, transform-few _ _ _ _ (known c .0))
 returns-2 : tie.Need-returns-2
 returns-2 c =
     let k = known (c .before) in
-    (k .0, wrong-later _ _ 2 _ _ (k .1) (wrong-later _ _ 1 _ _ (k .2) (wrong-here _ _ _ _ (c .if1 .taken))))
+    wrong-length false _ _ _ _ _ _ _ (k .0) tt 3 (wrong-later _ _ 2 _ _ (k .1) (wrong-later _ _ 1 _ _ (k .2) (wrong-here _ _ _ _ (c .if1 .taken))))
 
 mul-if2 : tie.Need-mul-if2
 mul-if2 c = omega (arith, square-few _ _ _ _ (known (c .before) .0))
@@ -49,7 +50,7 @@ mul-if2 c = omega (arith, square-few _ _ _ _ (known (c .before) .0))
 returns-3 : tie.Need-returns-3
 returns-3 c =
     let k = known (c .before .before) in
-    (k .0, wrong-later _ _ 3 _ _ (k .1) (wrong-later _ _ 2 _ _ (k .2) (wrong-later _ _ 1 _ _ (c .before .if1 .left) (wrong-here _ _ _ _ (c .if2 .taken)))))
+    wrong-length false _ _ _ _ _ _ _ (k .0) tt 4 (wrong-later _ _ 3 _ _ (k .1) (wrong-later _ _ 2 _ _ (k .2) (wrong-later _ _ 1 _ _ (c .before .if1 .left) (wrong-here _ _ _ _ (c .if2 .taken)))))
 
 check-coefficients-requires : tie.Need-check-coefficients-requires
 check-coefficients-requires c κs = search needs
@@ -57,8 +58,8 @@ check-coefficients-requires c κs = search needs
 returns-4 : tie.Need-returns-4
 returns-4 c =
     let k = known (c .before .before .before) in
-    by-coefficients _ _ _ _ _ _ (now (c .before .before .before .before .before .before .before .args .a)) (c .check-coefficients .result) (k .0)
-    (ap₂ _∷_ (k .1) (ap₂ _∷_ (k .2) (ap₂ _∷_ (c .before .before .if1 .left) (ap₂ _∷_ (c .before .if2 .left) refl)))) (c .check-coefficients .ensures)
+    c .check-coefficients .ensures false _ _ _ _ _ (k .0) tt
+    (ap₂ _∷_ (k .1) (ap₂ _∷_ (k .2) (ap₂ _∷_ (c .before .before .if1 .left) (ap₂ _∷_ (c .before .if2 .left) refl))))
 
 pub check-reduction-spec : {M : Type 1} → statement M
 check-reduction-spec =

@@ -1,12 +1,11 @@
-use native.Mathlib.Omega.{arith}
 use borrow.Author.Needs.{needs}
 use mathlib.Core.Path.{refl, subst, ap₂}
+use mathlib.Core.Bool.{false}
 use mathlib.Core.List.{_∷_}
 use denote.Ref.{now}
 use lib.ListN.{length}
 use Rattle.refusals.specs.Part.{OfMatrix}
 use Rattle.refusals.specs.declared.Check.the-variants.{Fine}
-use Rattle.refusals.proofs.Verdicts.{by-coefficients}
 use Rattle.refusals.proofs.check_step.Statement.{statement}
 use Rattle.refusals.proofs.check_step.Tie as tie
 
@@ -32,7 +31,7 @@ check-coefficients-requires c κs = search needs
 returns-2 : tie.Need-returns-2
 returns-2 c =
     let k = known (c .before) in
-    by-coefficients _ _ _ _ _ _ (now (c .before .before .before .before .before .args .a)) (c .check-coefficients .result) (k .0) (ap₂ _∷_ (k .1) (ap₂ _∷_ (k .2) refl)) (c .check-coefficients .ensures)
+    c .check-coefficients .ensures false _ _ _ _ _ (k .0) tt (ap₂ _∷_ (k .1) (ap₂ _∷_ (k .2) refl))
 
 pub check-step-spec : {M : Type 1} → statement M
 check-step-spec =

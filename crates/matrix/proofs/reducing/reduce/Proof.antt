@@ -1,10 +1,12 @@
 use native.Mathlib.Omega.{arith}
-use mathlib.Core.Path.{refl, subst}
+use mathlib.Core.Path.{subst}
+use mathlib.Core.Bool.{false}
 use denote.Ref.{now}
 use Rattle.poly.proofs.Asked.{in-range}
 use Rattle.refusals.specs.Refused.{Verdict}
 use Rattle.refusals.proofs.Verdicts.{cell-few}
-use Rattle.matrix.proofs.Service.{Passed, copy-fits, u-square, v-square, start-asked, answered}
+use Rattle.refusals.proofs.Answering.{answer-refused}
+use Rattle.matrix.proofs.Service.{Passed, order, copy-fits, u-square, v-square, start-asked, answered}
 use borrow.Author.Needs.{needs}
 use Rattle.matrix.proofs.reducing.reduce.Statement.{statement}
 use Rattle.matrix.proofs.reducing.reduce.Tie as tie
@@ -12,7 +14,7 @@ use Rattle.matrix.proofs.reducing.reduce.Tie as tie
 -- past the checks all is in order
 known : (c : tie.After-enum-told) → let args = c .before .before .before .before .before .before .before .args in
     Passed (args .p) (args .n) (args .m) (args .d) (now (args .a)) (now (args .r)) (now (args .u)) (now (args .v))
-known c = record { verdict = subst (Verdict _ _ _ _ _ _ _) (c .enum-told .given .1) (c .before .before .check-reduction .ensures) }
+known c = record { told = subst (Verdict false _ _ _ _ _ _ _) (c .enum-told .given .1) (c .before .before .check-reduction .ensures) }
 
 check-reduction-requires : tie.Need-check-reduction-requires
 check-reduction-requires c κs = search needs
@@ -21,19 +23,19 @@ enum-known-x : tie.Need-enum-known-x
 enum-known-x c = search needs
 
 returns : tie.Need-returns
-returns c = (subst (Verdict _ _ _ _ _ _ _) (c .before .x .given .1) (c .before .before .before .check-reduction .ensures), refl, refl, refl)
+returns c = answer-refused (c .before .x .given .1) (c .before .before .before .check-reduction .ensures)
 
 enum-told : tie.Need-enum-told
 enum-told c = search needs
 
 add-w : tie.Need-add-w
-add-w c = omega (arith, known c .verdict .0 .degree)
+add-w c = omega (arith, order (known c) .numbers .degree)
 
 copy-requires : tie.Need-copy-requires
 copy-requires c κs = copy-fits (known (c .before))
 
 mul-write-identity : tie.Need-mul-write-identity
-mul-write-identity c = omega (arith, cell-few _ _ _ _ (known (c .before .before .before .before .before) .verdict .0))
+mul-write-identity c = omega (arith, cell-few _ _ _ _ (order (known (c .before .before .before .before .before)) .numbers))
 
 write-identity-requires : tie.Need-write-identity-requires
 write-identity-requires c κs = u-square (known (c .before .before .before .before .before))
@@ -42,7 +44,7 @@ write-identity-requires-2 : tie.Need-write-identity-requires-2
 write-identity-requires-2 c κs = v-square (known (c .before .before .before .before .before .before .before .before .before))
 
 of-requires : tie.Need-of-requires
-of-requires c κs = in-range (known (c .before .before .before .before .before .before .before .before .before .before .before .before .before .before .before) .verdict .0 .modulus)
+of-requires c κs = in-range (order (known (c .before .before .before .before .before .before .before .before .before .before .before .before .before .before .before)) .numbers .modulus)
 
 work-requires : tie.Need-work-requires
 work-requires c κs = start-asked (known (c .before .before .before .before .before .before .before .before .before .before .before .before .before .before .before .before)) (c .of .ensures .0) (c .of .ensures .1) (c .before .before .before .before .before .before .before .before .before .before .before .before .before .before .copy .ensures) (c .before .before .before .before .before .before .before .before .before .before .write-identity .ensures) (c .before .before .before .before .before .before .write-identity2 .ensures)

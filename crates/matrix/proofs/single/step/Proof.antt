@@ -1,9 +1,11 @@
 use native.Mathlib.Omega.{arith}
-use mathlib.Core.Path.{refl, subst}
+use mathlib.Core.Path.{subst}
+use mathlib.Core.Bool.{false}
 use denote.Ref.{now}
 use Rattle.poly.proofs.Asked.{in-range}
 use Rattle.refusals.specs.Refused.{Verdict}
-use Rattle.matrix.proofs.SingleService.{StepPassed, step-copy-fits, step-asked, step-answered}
+use Rattle.refusals.proofs.Answering.{answer-refused}
+use Rattle.matrix.proofs.SingleService.{StepPassed, step-order, step-copy-fits, step-asked, step-answered}
 use borrow.Author.Needs.{needs}
 use Rattle.matrix.proofs.single.step.Statement.{statement}
 use Rattle.matrix.proofs.single.step.Tie as tie
@@ -11,7 +13,7 @@ use Rattle.matrix.proofs.single.step.Tie as tie
 -- past the checks all is in order
 known : (c : tie.After-enum-told) → let args = c .before .before .before .before .before .args in
     StepPassed (args .p) (args .n) (args .m) (args .d) (now (args .a)) (now (args .r))
-known c = record { verdict = subst (Verdict _ _ _ _ _ _ _) (c .enum-told .given .1) (c .before .before .check-step .ensures) }
+known c = record { told = subst (Verdict false _ _ _ _ _ _ _) (c .enum-told .given .1) (c .before .before .check-step .ensures) }
 
 check-step-requires : tie.Need-check-step-requires
 check-step-requires c κs = search needs
@@ -20,7 +22,7 @@ enum-known-x : tie.Need-enum-known-x
 enum-known-x c = search needs
 
 returns : tie.Need-returns
-returns c = (subst (Verdict _ _ _ _ _ _ _) (c .before .x .given .1) (c .before .before .before .check-step .ensures), refl)
+returns c = answer-refused (c .before .x .given .1) (c .before .before .before .check-step .ensures)
 
 enum-told : tie.Need-enum-told
 enum-told c = search needs
@@ -29,10 +31,10 @@ copy-requires : tie.Need-copy-requires
 copy-requires c κs = step-copy-fits (known (c .before))
 
 add-once : tie.Need-add-once
-add-once c = omega (arith, known (c .before .before .before .before .before) .verdict .0 .degree)
+add-once c = omega (arith, step-order (known (c .before .before .before .before .before)) .numbers .degree)
 
 of-requires : tie.Need-of-requires
-of-requires c κs = in-range (known (c .before .before .before .before .before) .verdict .0 .modulus)
+of-requires c κs = in-range (step-order (known (c .before .before .before .before .before)) .numbers .modulus)
 
 once-requires : tie.Need-once-requires
 once-requires c κs = step-asked (known (c .before .before .before .before .before .before)) (c .of .ensures .0) (c .of .ensures .1) (c .before .before .before .before .copy .ensures)
