@@ -9,6 +9,10 @@ use Rattle.algebra.specs.Cases.{if-equal}
 pub case-le : {C : Type 0} (n m : ℕ) → (n ≤ m → C) → (m < n → C) → C
 case-le n m f g = elim (decLe n m) [ yes p ↦ f p | no q ↦ g (omega arith) ]
 
+-- two numbers of which neither is less are equal
+pub neither : (a b : ℕ) → ¬ (a < b) → ¬ (b < a) → a ≡ b
+neither a b p q = case-le a b (λ l. case-le b a (λ r. omega arith) (λ r. absurd (p r))) (λ l. absurd (q l))
+
 module _ {A : Type 0} where
   pub if-equal-same : (i : ℕ) (x y : A) → if-equal i i x y ≡ x
   unfolding if-equal

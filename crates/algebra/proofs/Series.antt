@@ -144,3 +144,10 @@ module _ {F : Type 0} (R : CommRing F) where
 
   pub const-mul-at : (c : F) (f : ℕ → F) (k : ℕ) → series .mul (const R c) f k ≡ c ⊛ f k
   const-mul-at c f k = mono-mul-high c 0 f k zero-le ∙ ap (λ m. c ⊛ f m) (N.sub-zero k)
+
+  pub const-mul : (a b : F) → series .mul (const R a) (const R b) ≡ const R (a ⊛ b)
+  const-mul a b = fun-ext (λ k. const-mul-at a (const R b) k ∙ at k)
+    where
+      at : (k : ℕ) → a ⊛ const R b k ≡ const R (a ⊛ b) k
+      at zero = ap (λ x. a ⊛ x) (mono-same b 0) ∙ sym (mono-same (a ⊛ b) 0)
+      at (suc k) = ap (λ x. a ⊛ x) (mono-other b 0 (suc k) (omega arith)) ∙ Ring.mul-zero R a ∙ sym (mono-other (a ⊛ b) 0 (suc k) (omega arith))

@@ -55,6 +55,11 @@ total-others (suc n) j b f l h = let e : suc n - 1 ≡ n = omega arith in rw e (
     less zero s = absurd (omega arith)
     less (suc n) s = let e : suc n - 1 ≡ n = omega arith in rw e (sym (N.suc-mul n b))
 
+pub total-ones : (n : ℕ) → total n (λ _. 1) ≡ n
+unfolding total
+total-ones zero = refl
+total-ones (suc n) = omega (arith, total-ones n)
+
 pub total-scale : (n b : ℕ) (f : ℕ → ℕ) → total n (λ i. f i * b) ≡ total n f * b
 unfolding total
 total-scale zero b f = sym (N.zero-mul b)
@@ -72,10 +77,6 @@ total-change zero l f g p h = absurd (omega arith)
 total-change (suc n) l f g p h = case-le (suc l) n
     (λ s. omega (arith, total-change n l f g s (λ i r ne. h i (omega arith) ne), h n (omega arith) (omega arith)))
     (λ s. let e : l ≡ n = omega arith in rw e (omega (arith, total-same n f g (λ i r. h i (omega arith) (omega arith)))))
-  where
-    total-same : (n : ℕ) (f g : ℕ → ℕ) → ((i : ℕ) → i < n → f i ≡ g i) → total n f ≡ total n g
-    total-same zero f g h = refl
-    total-same (suc n) f g h = ap₂ _+_ (total-same n f g (λ i l. h i (omega arith))) (h n (omega arith))
 
 -- where every i < n with f i not 0 goes to a number below r of its own, at which g is not less than f is at i
 pub total-injection : (n r : ℕ) (f g : ℕ → ℕ) (σ : (i : ℕ) → i < n → 0 < f i → ℕ) → ((i : ℕ) (l : i < n) (p : 0 < f i) → σ i l p < r)

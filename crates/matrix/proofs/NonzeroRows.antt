@@ -8,15 +8,12 @@ use native.Mathlib.Omega.{arith}
 use lib.Pow.{pow-lt}
 use Rattle.lists.specs.Total.{total}
 use Rattle.reduction.specs.Rank.{sign, chosen}
+use Rattle.reduction.proofs.Sign.{sign-most}
 use Rattle.matrix.specs.Listed.{maskOf, IsListed}
 
 pub sign-some : {x : ℕ} → x ≢ 0 → 1 ≡ sign x
 sign-some {x = zero} h = absurd (h refl)
 sign-some {x = suc x} h = refl
-
-sign-most : (x : ℕ) → sign x ≤ 1
-sign-most zero = omega arith
-sign-most (suc x) = omega arith
 
 -- the first i rows are listed
 pub record Listing (z : ℕ → ℕ) (rank rows bit i : ℕ) : Type 0 where

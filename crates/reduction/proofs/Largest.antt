@@ -24,6 +24,7 @@ use Rattle.reduction.specs.Pivot.{values, pivot}
 use Rattle.reduction.specs.Step.{Carried, begin}
 use Rattle.reduction.specs.Rank.{sign, chosen, Independent, IsRank, rank}
 use Rattle.lists.proofs.Total.{total-injection}
+use Rattle.reduction.proofs.Sign.{sign-pos, sign-le}
 use Rattle.reduction.proofs.Index.{clash-of}
 use Rattle.reduction.proofs.Pivot.{value-lead, value-null, lead-some, lead-is}
 use Rattle.reduction.proofs.Ending.{reach}
@@ -31,15 +32,6 @@ use Rattle.reduction.proofs.Transforms.{Ended, runs-ended}
 use Rattle.reduction.proofs.Triangular.{Lower}
 use Rattle.reduction.proofs.Combination.{comb-same-rows, comb-led}
 use Rattle.reduction.proofs.Listed.{runs-lower, listed}
-
-sign-pos : (v : ℕ) → 0 < sign v → 0 < v
-sign-pos zero l = l
-sign-pos (suc v) l = omega arith
-
-sign-le : (v w : ℕ) → 0 < w → sign v ≤ sign w
-sign-le v zero l = absurd (omega arith)
-sign-le zero (suc w) l = omega arith
-sign-le (suc v) (suc w) l = omega arith
 
 module _ {F : Type 0} (R : CommRing F) where
   -- a polynomial of a row that is chosen, and 0 where the row is not
@@ -135,7 +127,7 @@ module _ {F : Type 0} (K : Field F) (n m size : ℕ) (A : ℕ → Row F) (u : Ca
     few : chosen n z ≤ rank K n m size (u .R)
     few = total-injection n n _ _ (λ i l p. meets i l p .at) (λ i l p. meets i l p .fits)
         (λ i j li lj pi pj l. apart i j l lj (meets i li pi) (meets j lj pj))
-        (λ i l p. sign-le (z i) (v (u .R) (meets i l p .at)) (meets i l p .some))
+        (λ i l p. sign-le (z i) (v (u .R) (meets i l p .at)) (λ _. meets i l p .some))
       where
         apart : (i j : ℕ) → i < j → j < n → (x : Meets i) (y : Meets j) → x .at ≢ y .at
         apart i j l lj x y e = th .done i j l lj (clash-of (x .own) (y .own) (x .column ∙ ap (λ k. pivot m (v (u .R) k) .col) e ∙ sym (y .column)))

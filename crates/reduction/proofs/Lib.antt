@@ -2,6 +2,7 @@ pub mod Process
 pub mod Index
 pub mod Pivot
 pub mod Pair
+pub mod Cancelling
 pub mod Lowering
 pub mod Ending
 pub mod SingleStep
@@ -12,5 +13,6 @@ pub mod Degrees
 pub mod Triangular
 pub mod Combination
 pub mod Listed
+pub mod Sign
 pub mod Largest
 pub mod Facts

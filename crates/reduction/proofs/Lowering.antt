@@ -1,39 +1,28 @@
 -- A step lowers the value of row l, keeps the bound on the degrees and changes no other row.
-use mathlib.Core.Path.{_≡_, sym, _∙_, ap, ap₂}
+use mathlib.Core.Path.{_≡_, sym, ap₂}
 use mathlib.Core.Logic.{_≢_}
 use Prim.Native.Nat.{ℕ, suc, _-_, _≤_, _<_}
 use native.Mathlib.Omega.{arith}
 use native.Mathlib.Decide.{ℕ-discrete}
-use Rattle.algebra.specs.Ring.{CommRing}
 use Rattle.algebra.specs.Field.{Field}
 use Rattle.algebra.specs.Polynomial.{Degree}
-use Rattle.algebra.proofs.Ring as Ring
-use Rattle.algebra.proofs.Series.{series, mono-same, neg-at}
+use Rattle.algebra.proofs.Series.{series}
 use Rattle.algebra.proofs.Polynomial.{below-add}
 use Rattle.algebra.proofs.Matrix.{setrow-same, setrow-other}
 use Rattle.lattice.specs.Term.{term, up, TermOrder}
-use Rattle.lattice.specs.Row.{Row, coef, Bounded, plus, scale}
-use Rattle.lattice.specs.Lead.{Lead}
+use Rattle.lattice.specs.Row.{Row, Bounded, plus, scale}
+use Rattle.lattice.specs.Lead.{Lead, Under}
 use Rattle.lattice.specs.PolynomialMatrix.{AllBounded}
-use Rattle.lattice.proofs.Coefficients.{degree-mono, degree-neg}
 use Rattle.lattice.proofs.DegreeOverPosition.{degree-over-position}
-use Rattle.lattice.proofs.Lead.{lead-scale, lead-scale-coef, cancel-under}
+use Rattle.lattice.proofs.Lead.{cancel-under}
 use Rattle.reduction.specs.Pivot.{value, values, pivot, height, Clash}
 use Rattle.reduction.specs.Pair.{Reducing}
-use Rattle.reduction.specs.Step.{leading, factor, reduce-row}
+use Rattle.reduction.specs.Step.{factor, reduce-row}
 use Rattle.reduction.proofs.Index.{key-pivot, height-some, height-bound, clash-first, clash-second, clash-columns}
+use Rattle.reduction.proofs.Cancelling.{quotient-degree, multiple-lead, multiple-cancels}
 use Rattle.reduction.proofs.Pivot.{value-bound, value-lead, under-value, lead-bounded}
 
--- (a / b) b = a
-divided : {F : Type 0} (K : Field F) (a b : F) → b ≢ K .ring .𝟘 → K .ring .mul (K .ring .mul a (K .inv b)) b ≡ a
-divided K a b ne =
-    K .ring .mul-assoc a (K .inv b) b ∙ ap (K .ring .mul a) (Ring.mul-comm (K .ring) (K .inv b) b ∙ K .mul-inv b ne) ∙ K .ring .mul-one a
-
 module _ {F : Type 0} (K : Field F) (m size : ℕ) where
-  infixl 65 _⊕_
-  infixl 70 _⊛_
-  open CommRing (K .ring) using (add as _⊕_, mul as _⊛_, neg, 𝟘)
-
   abbrev T : TermOrder m
   T = degree-over-position m
 
@@ -49,19 +38,9 @@ module _ {F : Type 0} (K : Field F) (m size : ℕ) where
     abbrev q : ℕ → F
     q = factor K m size f g
 
-    -- the two leading coefficients
-    abbrev a : F
-    a = leading K m size f
-
-    abbrev b : F
-    b = leading K m size g
-
-    abbrev minus : ℕ → F
-    minus = series (K .ring) .neg q
-
-    -- - c x^e g, and f - c x^e g
+    -- f - c x^e g
     abbrev multiple : Row F
-    multiple = scale (K .ring) minus g
+    multiple = scale (K .ring) (series (K .ring) .neg q) g
 
     abbrev difference : Row F
     difference = plus (K .ring) f multiple
@@ -80,29 +59,17 @@ module _ {F : Type 0} (K : Field F) (m size : ℕ) where
 
     pub factor-degree : Degree (K .ring) q e
     unfolding factor
-    factor-degree = degree-mono (K .ring) _ e (λ z. lead-f .top
-        (sym (divided K a b (lead-g .top)) ∙ ap (λ x. x ⊛ b) z ∙ Ring.zero-mul (K .ring) _))
+    factor-degree = quotient-degree K T f g (pivot m (v g)) (pivot m (v f)) e lead-g shifted (lead-f .top)
 
-    minus-degree : Degree (K .ring) minus e
-    minus-degree = degree-neg (K .ring) q e factor-degree
-
-    minus-at : minus e ≡ neg (a ⊛ K .inv b)
-    unfolding factor
-    minus-at = neg-at (K .ring) _ e ∙ ap neg (mono-same (K .ring) _ e)
-
-    -- its leading term is that of f, with the opposite coefficient
+    -- c x^e g removes the leading term of f
     lead-multiple : Lead (K .ring) T (pivot m (v f)) multiple
-    lead-multiple = rw shifted at (lead-scale K T minus g e (pivot m (v g)) minus-degree lead-g)
+    unfolding factor
+    lead-multiple = multiple-lead K T f g (pivot m (v g)) (pivot m (v f)) e lead-g shifted (lead-f .top)
 
-    cancels : a ⊕ coef multiple (pivot m (v f)) ≡ 𝟘
-    cancels =
-        ap (λ x. a ⊕ x)
-        (ap (coef multiple) (sym shifted)
-        ∙ lead-scale-coef (K .ring) T minus g e (pivot m (v g)) minus-degree lead-g
-        ∙ ap (λ x. x ⊛ b) minus-at
-        ∙ Ring.neg-mul (K .ring) _ _
-        ∙ ap neg (divided K a b (lead-g .top)))
-        ∙ K .ring .add-neg a
+    under : Under (K .ring) T (pivot m (v f)) difference
+    unfolding factor
+    under = cancel-under (K .ring) T (pivot m (v f)) f multiple lead-f lead-multiple
+        (multiple-cancels K T f g (pivot m (v g)) (pivot m (v f)) e lead-g shifted (lead-f .top))
 
     difference-bounded : Bounded (K .ring) m size difference
     unfolding plus
@@ -111,9 +78,7 @@ module _ {F : Type 0} (K : Field F) (m size : ℕ) where
         (omega (arith, height-f, height-bound m size (v f) (value-bound K m size f bf))) x l)
 
     difference-value : v difference < v f
-    difference-value =
-        let u = cancel-under (K .ring) T (pivot m (v f)) f multiple lead-f lead-multiple cancels in
-        omega (arith, under-value K m size difference difference-bounded (pivot m (v f)) u, key-pivot m (v f), clash-first c)
+    difference-value = omega (arith, under-value K m size difference difference-bounded (pivot m (v f)) under, key-pivot m (v f), clash-first c)
 
 module _ {F : Type 0} (K : Field F) (n m size : ℕ) (M : ℕ → Row F) (l k : ℕ) where
   abbrev M′ : ℕ → Row F

@@ -3,14 +3,10 @@ use mathlib.Core.Path.{_≡_, ap₂, subst}
 use Prim.Native.Nat.{ℕ, _<_}
 use native.Mathlib.Omega.{arith}
 use native.Mathlib.Decide.{decLt}
-use Rattle.algebra.proofs.Cases.{case-le}
+use Rattle.algebra.proofs.Cases.{neither}
 use Rattle.reduction.specs.Pivot.{height, Clash}
 use Rattle.reduction.specs.Pair.{Pair, NoPair, ordered-by, target, Reducing}
 use Rattle.reduction.proofs.Index.{clash-turned}
-
--- two numbers of which neither is less are equal
-neither : (a b : ℕ) → ¬ (a < b) → ¬ (b < a) → a ≡ b
-neither a b p q = case-le a b (λ l. case-le b a (λ r. omega arith) (λ r. absurd (p r))) (λ l. absurd (q l))
 
 module _ (n m : ℕ) (v : ℕ → ℕ) where
   pub pair-exclusive : Pair n m v → ¬ (NoPair n m v)

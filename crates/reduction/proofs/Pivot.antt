@@ -55,12 +55,12 @@ module _ {F : Type 0} (K : Field F) where
   open CommRing (K .ring) using (𝟘)
 
   -- v is one more than the greatest x < n with f x not zero
-  record Top (n : ℕ) (f : ℕ → F) (v : ℕ) : Type 0 where
-    within : v ≤ n
-    entry : 0 < v → f (v - 1) ≢ 𝟘
-    beyond : (x : ℕ) → v ≤ x → x < n → f x ≡ 𝟘
+  pub record Top (n : ℕ) (f : ℕ → F) (v : ℕ) : Type 0 where
+    pub within : v ≤ n
+    pub entry : 0 < v → f (v - 1) ≢ 𝟘
+    pub beyond : (x : ℕ) → v ≤ x → x < n → f x ≡ 𝟘
 
-  top-is : (n : ℕ) (f : ℕ → F) → Top n f (top K n f)
+  pub top-is : (n : ℕ) (f : ℕ → F) → Top n f (top K n f)
   unfolding top
   top-is zero f = record { within = omega arith; entry = λ l. absurd (omega arith); beyond = λ x _ l. absurd (omega arith) }
   top-is (suc n) f = go (K .dec (f n) 𝟘) (top-is n f)
@@ -116,6 +116,9 @@ module _ {F : Type 0} (K : Field F) where
 
     pub lead-is : (t : Term) → Leads t → pivot m v ≡ t
     lead-is t x = lead-unique (K .ring) (degree-over-position m) _ _ r (value-lead (lead-some t x)) x
+
+    pub lead-value : (t : Term) → Leads t → v ≡ suc (key m t)
+    lead-value t x = omega (arith, lead-some t x, key-pivot m v, ap (key m) (lead-is t x))
 
     pub null-value : Null (K .ring) m r → v ≡ 0
     null-value z = case-le 1 v (λ l. absurd (null-lead (K .ring) (degree-over-position m) _ r z (value-lead l))) (λ l. omega arith)

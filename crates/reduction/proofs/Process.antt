@@ -1,7 +1,7 @@
 -- The laws of a step repeated until none applies.
 use mathlib.Core.Path.{_≡_, refl, sym, _∙_, ap, subst}
 use mathlib.Core.Logic.{_⊎_, inl, inr}
-use Prim.Native.Nat.{ℕ, zero, suc, _≤_, _<_}
+use Prim.Native.Nat.{ℕ, zero, suc, _+_, _≤_, _<_}
 use native.Mathlib.Omega.{arith}
 use Rattle.reduction.specs.Process.{Process, Iterates, halt, more, repeated, once-at, once}
 
@@ -39,6 +39,11 @@ module _ {X : Type 0} (P : Process X) where
 
     pub iterate : (x : X) → I x → Ends x
     iterate x i = within (measure x) x i (omega arith)
+
+    -- and the measure bounds the count
+    pub iterates-count : {c : ℕ} {x y : X} → Iterates P c x y → I x → c + measure y ≤ measure x
+    iterates-count (halt h) i = omega arith
+    iterates-count (more {x = x} p r) i = omega (arith, fall x p i, iterates-count r (keep x p i))
 
   -- where no step applies at an end, and all steps that apply lead to one state
   module _ (exclusive : (x : X) → P .Next x → ¬ (P .Halt x)) (determined : (x : X) (p q : P .Next x) → P .apply x p ≡ P .apply x q) where

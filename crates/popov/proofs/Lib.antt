@@ -1,0 +1,13 @@
+pub mod Sorting
+pub mod Ascending
+pub mod Ordering
+pub mod Moves
+pub mod Excess
+pub mod Removing
+pub mod Load
+pub mod SecondStep
+pub mod SecondEnding
+pub mod Scaling
+pub mod Carrying
+pub mod PopovForm
+pub mod Facts
