@@ -20,8 +20,8 @@ use Rattle.refusals.proofs.Answering.{InOrder, in-order}
 use Rattle.matrix.specs.Reduced.{ReducedBy}
 use Rattle.matrix.specs.Answer.{lengths, IsDone, Promised}
 use Rattle.matrix.specs.Facts.{DoneFacts}
-use Rattle.matrix.proofs.Loop.{valuesOf}
-use Rattle.matrix.proofs.Value.{value-held}
+use Rattle.pivots.specs.Pivot.{valuesOf}
+use Rattle.stepping.proofs.Value.{value-held}
 
 -- of a matrix that is reduced
 pub done-facts : (p : ℕ) (P : Prime p) (some : 0 < p) (n m w : ℕ) (a r u v : List ℕ) (rank count rows : ℕ)

@@ -1,9 +1,4 @@
-pub mod Value
-pub mod Moving
-pub mod Quotient
-pub mod Following
 pub mod Loop
-pub mod RowsOf
 pub mod Running
 pub mod NonzeroRows
 pub mod Service

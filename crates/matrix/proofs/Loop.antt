@@ -34,32 +34,12 @@ use Rattle.reduction.proofs.Index.{height-pos, height-bound}
 use Rattle.reduction.proofs.Pair.{target-reducing}
 use Rattle.reduction.proofs.Lowering.{Lowered, value-le}
 use Rattle.reduction.proofs.Degrees.{D, spent-since, Narrow, narrow-start, degrees-most}
-use Rattle.pivots.specs.Pivot.{valueOf, rowOf, Pivots}
-use Rattle.matrix.specs.Holding.{Holding}
-use Rattle.matrix.specs.Move.{Moved}
+use Rattle.pivots.specs.Pivot.{valuesOf, degreesOf, Pivots}
+use Rattle.stepping.specs.Holding.{Holding}
+use Rattle.stepping.specs.Move.{Moved}
 use Rattle.matrix.specs.Reduced.{ReducedBy}
-use Rattle.matrix.proofs.Value.{value-held}
-use Rattle.matrix.proofs.Moving.{move-lowers, move-narrow, move-holding}
-
--- the values of the rows that stand in a list
-abbrev pub valuesOf : ℕ → ℕ → List ℕ → ℕ → ℕ
-valuesOf m w r i = valueOf m w (rowOf m w r i)
-
--- and their pivot degrees, that of a zero row counting as 0
-abbrev pub degreesOf : ℕ → ℕ → List ℕ → ℕ → ℕ
-degreesOf m w r i = height m (valuesOf m w r i) - 1
-
--- the bounds that hold for every list
-module _ (m w : ℕ) (r : List ℕ) where
-  pub values-most : (i : ℕ) → valuesOf m w r i ≤ w * m
-  unfolding valueOf
-  values-most i = last-is (w * m) _ .within
-
-  pub values-total : (n : ℕ) → total n (valuesOf m w r) ≤ n * (w * m)
-  values-total n = total-bound n (w * m) _ (λ i _. values-most i)
-
-  pub height-most : (i : ℕ) → height m (valuesOf m w r i) ≤ w
-  height-most i = height-bound m w _ (values-most i)
+use Rattle.stepping.proofs.Value.{value-held, height-most}
+use Rattle.stepping.proofs.Moving.{move-lowers, move-narrow, move-holding}
 
 -- values that agree on the n rows have the same pairs
 module _ (n m : ℕ) (v v′ : ℕ → ℕ) (e : (i : ℕ) → i < n → v i ≡ v′ i) where

@@ -23,13 +23,15 @@ use Rattle.pivots.specs.Columns.{Indices}
 use Rattle.pivots.specs.Pair.{NextAsked, IsNextOf}
 use Rattle.pivots.specs.Pivot.{Pivots, leastDegree}
 use Rattle.pivots.specs.declared.pair.Next.the-variants.{Nothing, Rows}
-use Rattle.matrix.specs.Move.{Moved}
-use Rattle.matrix.specs.Asked.{AdvanceAsked, Advanced}
+use Rattle.stepping.specs.Move.{Moved}
+use Rattle.stepping.specs.Asked.{AdvanceAsked, Advanced}
 use Rattle.matrix.specs.Running.{RunAsked, Ran}
-use Rattle.matrix.proofs.Following.{renew-asked}
+use Rattle.stepping.proofs.Following.{renew-asked}
 use Rattle.pivots.proofs.LeastDegree.{least-below}
-use Rattle.matrix.proofs.Loop.{valuesOf, degreesOf, values-total, Input, LoopAt, loop-reducing, loop-start, loop-last, loop-turn, loop-falls, u-short, u-room, v-short}
-use Rattle.matrix.proofs.RowsOf.{height-under, list-short, plan-asked, size-after, pivots-after}
+use Rattle.pivots.specs.Pivot.{valuesOf, degreesOf}
+use Rattle.stepping.proofs.Value.{values-total}
+use Rattle.matrix.proofs.Loop.{Input, LoopAt, loop-reducing, loop-start, loop-last, loop-turn, loop-falls, u-short, u-room, v-short}
+use Rattle.stepping.proofs.RowsOf.{height-under, list-short, plan-asked, size-after, pivots-after}
 
 -- a pivot index is a column or 0
 pub index-most : (m v : ℕ) → 0 < m → index m v ≤ m

@@ -23,7 +23,7 @@ use Rattle.matrix.specs.Running.{InputAsked, StartAsked, RunAsked, Ran}
 use Rattle.matrix.specs.Answer.{lengths, IsDone, Answered, AnsweredDone}
 use Rattle.matrix.specs.declared.reducing.Answer.{Answer}
 use Rattle.matrix.specs.declared.reducing.Answer.the-variants.{NotDone, Done}
-use Rattle.matrix.proofs.Loop.{valuesOf}
+use Rattle.pivots.specs.Pivot.{valuesOf}
 
 -- with the pivots and room for a row, for a cell of U and for eight numbers the loop can begin
 pub run-asked : {p reciprocal n m w : ℕ} {r u v spare indices degrees : List ℕ} → StartAsked p reciprocal n m w r u v

@@ -23,15 +23,16 @@ use Rattle.reduction.proofs.SingleStep.{step-pair, step-none}
 use Rattle.pivots.specs.Pair.{NextAsked, IsNextOf}
 use Rattle.pivots.specs.Pivot.{Pivots}
 use Rattle.pivots.specs.declared.pair.Next.the-variants.{Rows}
-use Rattle.matrix.specs.Move.{Factor}
-use Rattle.matrix.specs.Asked.{PlanAsked}
+use Rattle.stepping.specs.Move.{Factor}
+use Rattle.stepping.specs.Asked.{PlanAsked}
 use Rattle.matrix.specs.Running.{InputAsked}
 use Rattle.matrix.specs.Single.{Stepped}
-use Rattle.matrix.proofs.Value.{value-held}
-use Rattle.matrix.proofs.Moving.{step-held}
-use Rattle.matrix.proofs.Following.{row-asked}
-use Rattle.matrix.proofs.Loop.{valuesOf, no-pair-same, pair-same, loop-reducing}
-use Rattle.matrix.proofs.RowsOf.{list-short, plan-asked}
+use Rattle.stepping.proofs.Value.{value-held}
+use Rattle.stepping.proofs.Moving.{step-held}
+use Rattle.stepping.proofs.Following.{row-asked}
+use Rattle.pivots.specs.Pivot.{valuesOf}
+use Rattle.matrix.proofs.Loop.{no-pair-same, pair-same, loop-reducing}
+use Rattle.stepping.proofs.RowsOf.{list-short, plan-asked}
 use Rattle.matrix.proofs.Running.{index-most}
 
 module _ {p reciprocal n m w : ℕ} {r : List ℕ} (asked : InputAsked p reciprocal n m w r) where

@@ -20,7 +20,7 @@ use Rattle.pivots.specs.Pivot.{valueOf, rowOf}
 use Rattle.refusals.specs.Refused.{reductionSizes, stepSizes}
 use Rattle.refusals.proofs.Answering.{refusal-number, in-order}
 use Rattle.refusals.proofs.Unique.{refusal-same, told-unique, answering-unique}
-use Rattle.matrix.specs.Holding.{Holding}
+use Rattle.stepping.specs.Holding.{Holding}
 use Rattle.matrix.specs.Listed.{maskOf}
 use Rattle.matrix.specs.Reduced.{Reduced}
 use Rattle.matrix.specs.Answer.{lengths, IsDone, Promised, Answered, numberOf, placeOf, rankOf, countOf, rowsOf}

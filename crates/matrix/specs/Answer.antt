@@ -43,8 +43,8 @@ pub record IsDone (p n m w : ℕ) (a r u v : List ℕ) (rank count rows : ℕ) :
   pub reduced : Reduced p n m w count a r u v
   pub listed : IsListed n (λ i. valueOf m w (rowOf m w r i)) rank rows
 
--- the promise of the reduction, over the numbers that are returned and what the buffers hold at entry and at exit. No determinant
--- is wanted.
+-- The promise of the reduction, over the numbers that it returns and what the buffers hold at entry and at exit. No
+-- determinant is wanted.
 abbrev pub Promised : (p n m d : ℕ) (a r u v r′ u′ v′ : List ℕ) (number place rank count rows : ℕ) → Type 0
 Promised p n m d a r u v r′ u′ v′ number place rank count rows =
     Answering (refusalTable false p n m d (lengths a r u v) (reductionSizes n m d) a) number place
@@ -55,6 +55,6 @@ Promised p n m d a r u v r′ u′ v′ number place rank count rows =
 abbrev pub Answered : (p n m d : ℕ) (a r u v r′ u′ v′ : List ℕ) → Answer → Type 0
 Answered p n m d a r u v r′ u′ v′ x = Promised p n m d a r u v r′ u′ v′ (numberOf x) (placeOf x) (rankOf x) (countOf x) (rowsOf x)
 
--- and where nothing is refused
+-- what is left of it where nothing is refused
 abbrev pub AnsweredDone : (p n m w : ℕ) (a r u v : List ℕ) → Answer → Type 0
 AnsweredDone p n m w a r u v x = (numberOf x ≡ 0) × IsDone p n m w a r u v (rankOf x) (countOf x) (rowsOf x)

@@ -11,7 +11,7 @@ use Rattle.reduction.specs.Pivot.{values}
 use Rattle.reduction.specs.Rank as Rank
 use Rattle.reduction.specs.ReductionFacts.{ReductionFacts}
 use Rattle.reduction.specs.Step.{Carried}
-use Rattle.matrix.specs.Holding.{Holding}
+use Rattle.stepping.specs.Holding.{Holding}
 use Rattle.matrix.specs.Listed.{maskOf}
 
 -- A is the matrix in a, over Z/p; r, u and v are the buffers at the end, and rank, count and rows the answer

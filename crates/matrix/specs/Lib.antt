@@ -1,6 +1,3 @@
-pub mod Holding
-pub mod Move
-pub mod Asked
 pub mod Reduced
 pub mod Running
 pub mod Listed

@@ -9,7 +9,7 @@ use Rattle.buffers.specs.Held.{matrixOf}
 use Rattle.buffers.proofs.Place.{by-rows}
 use Rattle.reduction.specs.Step.{Carried, begin}
 use Rattle.reduction.specs.Run.{Runs}
-use Rattle.matrix.specs.Holding.{Holding}
+use Rattle.stepping.specs.Holding.{Holding}
 
 -- "The whole reduction is this step repeated until none applies. Its count is the number of steps so defined":
 -- from the matrix in a, `count` steps lead to what stands in r, u and v, where no step applies

@@ -41,7 +41,8 @@ abbrev pub countOf : StepAnswer → ℕ
 countOf (NotDone x) = 0
 countOf (Done count) = count
 
--- the promise of the single step, over the numbers that are returned and what the result holds at entry and at exit
+-- The promise of the single step, over the numbers that it returns and what the result holds at entry and at exit. No
+-- determinant is wanted.
 abbrev pub StepPromised : (p n m d : ℕ) (a r r′ : List ℕ) (number place count : ℕ) → Type 0
 StepPromised p n m d a r r′ number place count =
     Answering (refusalTable false p n m d (length a ∷ length r ∷ []) (stepSizes n m d) a) number place

@@ -3,4 +3,3 @@ mod listing;
 pub mod reducing;
 mod scratch;
 pub mod single;
-mod stepping;

@@ -3,7 +3,6 @@ ghost use Rattle.matrix.specs.Running.{StartAsked, RunAsked, Ran};
 ghost use Rattle.matrix.specs.Answer.{Answered, AnsweredDone};
 use crate::listing;
 use crate::scratch;
-use crate::stepping;
 use pivots::Next;
 use pivots::PivotDegree;
 use pivots::pivot;

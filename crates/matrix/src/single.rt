@@ -2,7 +2,6 @@
 ghost use Rattle.matrix.specs.Running.{InputAsked};
 ghost use Rattle.matrix.specs.Single.{Stepped, StepAnswered};
 use crate::scratch;
-use crate::stepping;
 use pivots::Next;
 use pivots::pivot;
 use poly::Modulus;

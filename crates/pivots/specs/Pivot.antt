@@ -16,6 +16,14 @@ valueOf m w row = lastNonzero (w * m) (λ x. getD row (x % m * w + x / m) 0)
 abbrev pub rowOf : ℕ → ℕ → List ℕ → ℕ → List ℕ
 rowOf m w r i = part (i * (m * w)) (m * w) r
 
+-- the values of the rows of a matrix
+abbrev pub valuesOf : ℕ → ℕ → List ℕ → ℕ → ℕ
+valuesOf m w r i = valueOf m w (rowOf m w r i)
+
+-- and their pivot degrees, that of a zero row counting as 0
+abbrev pub degreesOf : ℕ → ℕ → List ℕ → ℕ → ℕ
+degreesOf m w r i = height m (valuesOf m w r i) - 1
+
 -- x and d are the pivot index and one more than the pivot degree of a row of value v
 pub record IsPivotOf (m v x d : ℕ) : Type 0 where
   pub index-is : x ≡ index m v

@@ -24,6 +24,7 @@ one : (P : ℕ → Type 0) → ((i j : ℕ) → P i → P j → ¬ (i < j)) → 
 one P never i j f g =
     case-le i j (λ le. case-le j i (λ ge. omega arith) (λ lt. absurd (never i j f g lt))) (λ lt. absurd (never j i g f lt))
 
+-- only one place is 0
 zero-one : One Zero
 zero-one i j f g = f ∙ sym g
 
@@ -64,7 +65,7 @@ answering-unique {k = k} unique done-same f g =
           (λ some. f .refused some ∙ sym (g .refused (omega arith))),
     )
 
--- what the checks say by a number and a place
+-- what the checks have said where they gave a number and a place
 abbrev checkAt : (number place : ℕ) → Check
 checkAt number place = getD
     (Fine ∷ Refused Modulus ∷ Refused Shape ∷ Refused Degree ∷ Refused Square ∷ Refused (Length place) ∷ Refused (Coefficient place) ∷ [])

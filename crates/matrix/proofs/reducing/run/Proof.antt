@@ -4,7 +4,7 @@ use denote.Ref.{now}
 use Rattle.lists.specs.Total.{total}
 use Rattle.pivots.proofs.Next.{next-is}
 use Rattle.matrix.specs.Running.{RunAsked}
-use Rattle.matrix.proofs.Loop.{valuesOf}
+use Rattle.pivots.specs.Pivot.{valuesOf}
 use Rattle.matrix.proofs.Running.{Running, running-start, next-asked, running-stop, count-fits, Turn, rows-fit, reach-fits, advance-asked, after-fits, lower, falls, running-on}
 use Rattle.matrix.proofs.reducing.run.Statement.{statement}
 use Rattle.matrix.proofs.reducing.run.Tie as tie

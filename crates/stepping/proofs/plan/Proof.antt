@@ -6,9 +6,9 @@ use Prim.Native.Nat.{ℕ, _-_, _*_, _%_, _<_}
 use lib.ListN.{length}
 use Rattle.buffers.specs.Place.{place}
 use Rattle.lists.proofs.Grid.{within}
-use Rattle.matrix.specs.Asked.{LeadingAsked}
-use Rattle.matrix.proofs.stepping.plan.Statement.{statement}
-use Rattle.matrix.proofs.stepping.plan.Tie as tie
+use Rattle.stepping.specs.Asked.{LeadingAsked}
+use Rattle.stepping.proofs.plan.Statement.{statement}
+use Rattle.stepping.proofs.plan.Tie as tie
 
 -- the leading coefficient of a row stands in the matrix
 fits : {m w i x h : ℕ} {r : List ℕ} → LeadingAsked m w i x h r → place m w i (x - 1) (h - 1) < length r

@@ -5,10 +5,10 @@ use mathlib.Core.List.{List}
 use Prim.Native.Nat.{ℕ, _*_, _≤_}
 use lib.ListN.{length}
 use Rattle.lists.proofs.Grid.{one-line}
-use Rattle.matrix.specs.Asked.{AdvanceAsked}
-use Rattle.matrix.proofs.Following.{row-asked, u-asked, v-asked, renew-asked}
-use Rattle.matrix.proofs.stepping.advance.Statement.{statement}
-use Rattle.matrix.proofs.stepping.advance.Tie as tie
+use Rattle.stepping.specs.Asked.{AdvanceAsked}
+use Rattle.stepping.proofs.Following.{row-asked, u-asked, v-asked, renew-asked}
+use Rattle.stepping.proofs.advance.Statement.{statement}
+use Rattle.stepping.proofs.advance.Tie as tie
 
 -- a row of the spare room is longer than a cell of V
 width-small : {p reciprocal n m w l k reach : ℕ} {r u v spare indices degrees : List ℕ}

@@ -33,9 +33,9 @@ use Rattle.reduction.proofs.Pivot.{value-bound, value-lead}
 use Rattle.reduction.proofs.Lowering.{Lowered, lowered}
 use Rattle.reduction.proofs.Degrees.{Narrow, narrow-step, u-fits, v-degrees}
 use Rattle.pivots.specs.Pivot.{valueOf, rowOf, Pivots}
-use Rattle.matrix.specs.Holding.{Holding}
-use Rattle.matrix.specs.Move.{leadingAt, Factor, Moved}
-use Rattle.matrix.proofs.Value.{value-held}
+use Rattle.stepping.specs.Holding.{Holding}
+use Rattle.stepping.specs.Move.{leadingAt, Factor, Moved}
+use Rattle.stepping.proofs.Value.{value-held}
 
 -- the quotient is what gives the dividend
 quotient-is : {F : Type 0} (K : Field F) (a b c : F) → b ≢ K .ring .𝟘 → K .ring .mul c b ≡ a → K .ring .mul a (K .inv b) ≡ c

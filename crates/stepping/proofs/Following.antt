@@ -11,8 +11,8 @@ use Rattle.buffers.specs.Place.{place}
 use Rattle.buffers.specs.Added.{RowAdded}
 use Rattle.rows.specs.Asked.{Multiplier, Short, RowsInBuffer, LinePair}
 use Rattle.lists.proofs.Grid.{one-line}
-use Rattle.matrix.specs.Move.{Factor}
-use Rattle.matrix.specs.Asked.{PlanAsked, AdvanceAsked, RenewAsked}
+use Rattle.stepping.specs.Move.{Factor}
+use Rattle.stepping.specs.Asked.{PlanAsked, AdvanceAsked, RenewAsked}
 
 -- the heights of rows l and k, and the multiple that is taken away
 module _ (p reciprocal m w l k : ℕ) (r indices degrees : List ℕ) (asked : PlanAsked p reciprocal m w l k r indices degrees)

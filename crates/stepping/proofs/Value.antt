@@ -13,12 +13,15 @@ use Rattle.algebra.proofs.PrimeField.{zp-field, field-zero}
 use Rattle.algebra.proofs.Residue.{zp-path}
 use Rattle.lattice.specs.Row.{Row}
 use Rattle.lists.specs.Last.{lastNonzero}
-use Rattle.lists.proofs.Last.{last-nil, last-zero, last-here}
+use Rattle.lists.specs.Total.{total}
+use Rattle.lists.proofs.Last.{last-is, last-nil, last-zero, last-here}
+use Rattle.lists.proofs.Total.{total-bound}
 use Rattle.lists.proofs.Part.{getD-part}
 use Rattle.buffers.specs.Held.{Held}
 use Rattle.buffers.proofs.Place.{by-rows}
-use Rattle.reduction.specs.Pivot.{top, value}
-use Rattle.pivots.specs.Pivot.{valueOf, rowOf}
+use Rattle.reduction.specs.Pivot.{top, value, height}
+use Rattle.reduction.proofs.Index.{height-bound}
+use Rattle.pivots.specs.Pivot.{valueOf, rowOf, valuesOf}
 use Rattle.lists.proofs.Grid.{line-end, within}
 
 module _ (p : ℕ) (P : Prime p) where
@@ -47,3 +50,15 @@ module _ (p : ℕ) (P : Prime p) where
       let degree : x / m < w = N.div-lt-iff-lt-mul columns .1 lx in
       getD-part (i * (m * w)) (m * w) l (omega (arith, h .size, line-end i n (m * w) li)) _ (within (x % m) (x / m) m w column degree)
       ∙ h .at i (x % m) (x / m) li column degree)
+
+-- the bounds that hold for every list
+module _ (m w : ℕ) (r : List ℕ) where
+  pub values-most : (i : ℕ) → valuesOf m w r i ≤ w * m
+  unfolding valueOf
+  values-most i = last-is (w * m) _ .within
+
+  pub values-total : (n : ℕ) → total n (valuesOf m w r) ≤ n * (w * m)
+  values-total n = total-bound n (w * m) _ (λ i _. values-most i)
+
+  pub height-most : (i : ℕ) → height m (valuesOf m w r i) ≤ w
+  height-most i = height-bound m w _ (values-most i)

@@ -6,8 +6,8 @@ use lib.ListN.{set}
 use Rattle.reduction.specs.Pivot.{index, height}
 use Rattle.pivots.specs.Pivot.{valueOf}
 use Rattle.pivots.proofs.Search.{row-part, row-asked}
-use Rattle.matrix.proofs.stepping.renew.Statement.{statement}
-use Rattle.matrix.proofs.stepping.renew.Tie as tie
+use Rattle.stepping.proofs.renew.Statement.{statement}
+use Rattle.stepping.proofs.renew.Tie as tie
 
 mul-s : tie.Need-mul-s
 mul-s c = search needs

@@ -11,7 +11,7 @@ use Rattle.buffers.specs.Place.{place}
 use Rattle.rows.specs.Asked.{Short}
 use Rattle.reduction.specs.Pivot.{index, height}
 use Rattle.pivots.specs.Pivot.{valueOf, rowOf}
-use Rattle.matrix.specs.Move.{leadingAt, Moved}
+use Rattle.stepping.specs.Move.{leadingAt, Moved}
 
 -- row i lies in r, and x and h are a column and a height
 pub record LeadingAsked (m w i x h : ℕ) (r : List ℕ) : Type 0 where

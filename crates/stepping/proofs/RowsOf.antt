@@ -24,9 +24,10 @@ use Rattle.reduction.proofs.Index.{index-some, height-some, height-pos, height-
 use Rattle.pivots.specs.Pivot.{valueOf, rowOf, IsPivotOf, Pivots}
 use Rattle.lists.proofs.Grid.{line-end, within}
 use Rattle.pivots.proofs.Search.{past-height}
-use Rattle.matrix.specs.Move.{leadingAt}
-use Rattle.matrix.specs.Asked.{LeadingAsked, PivotAsked, PlanAsked, Renewed}
-use Rattle.matrix.proofs.Loop.{valuesOf, values-most}
+use Rattle.stepping.specs.Move.{leadingAt}
+use Rattle.stepping.specs.Asked.{LeadingAsked, PivotAsked, PlanAsked, Renewed}
+use Rattle.pivots.specs.Pivot.{valuesOf}
+use Rattle.stepping.proofs.Value.{values-most}
 
 module _ (n m w : ℕ) (columns : 0 < m) (r : List ℕ) (size : length r ≡ n * (m * w)) where
   row-fits : (i : ℕ) → i < n → i * (m * w) + m * w ≤ length r
