@@ -6,7 +6,7 @@ use Rattle.algebra.specs.Ring.{CommRing}
 use Rattle.algebra.specs.Sum.{sum}
 use Rattle.algebra.specs.Matrix.{Mat, Same, transpose, setrow, product, identity}
 use Rattle.algebra.proofs.Ring as Ring
-use Rattle.algebra.proofs.Cases.{if-equal-same, if-equal-other, if-equal-iff, if-equal-ap}
+use Rattle.algebra.proofs.Cases.{if-equal-same, if-equal-other, if-equal-iff}
 use Rattle.algebra.proofs.Sum.{sum-cong, sum-add, sum-neg, sum-single, sum-swap, sum-mul, mul-sum}
 
 module _ {F : Type 0} where

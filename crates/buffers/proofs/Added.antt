@@ -1,5 +1,5 @@
 -- What is added to the rows or columns of a buffer is added to the matrix that it holds.
-use mathlib.Core.Path.{_≡_, sym, ap, ap₂, _∙_, fun-ext}
+use mathlib.Core.Path.{_≡_, sym, ap, ap₂, _∙_}
 use mathlib.Core.Logic.{_≢_}
 use mathlib.Core.List.{List}
 use Prim.Native.Nat.{ℕ, _+_, _*_, _-_, _%_, _≤_, _<_}
@@ -17,7 +17,6 @@ use Rattle.algebra.specs.Series.{mono}
 use Rattle.algebra.proofs.Cases.{case-le}
 use Rattle.algebra.proofs.Matrix.{setrow-same, setrow-other}
 use Rattle.algebra.proofs.PrimeField.{zp-field, field-add, field-mul, field-neg, field-zero}
-use Rattle.algebra.proofs.Ring.{neg-zero}
 use Rattle.algebra.proofs.Series.{series, add-at, neg-mono, mono-mul-low, mono-mul-high}
 use Rattle.lattice.specs.Row.{Row}
 use Rattle.lattice.specs.PolynomialMatrix.{AllBounded}

@@ -12,12 +12,11 @@ use Rattle.algebra.specs.Prime.{Prime}
 use Rattle.algebra.specs.Residue.{Zp}
 use Rattle.algebra.proofs.Cases.{case-le}
 use Rattle.algebra.proofs.PrimeField.{zp-field, field-zero}
-use Rattle.algebra.proofs.Series.{series, zero-at}
+use Rattle.algebra.proofs.Series.{series}
 use Rattle.lattice.specs.Row.{Row}
 use Rattle.lattice.specs.PolynomialMatrix.{AllBounded}
 use Rattle.lists.specs.Total.{total}
-use Rattle.lists.proofs.Last.{last-is}
-use Rattle.lists.proofs.Total.{total-same, total-le, total-lt, total-bound, total-one}
+use Rattle.lists.proofs.Total.{total-same, total-lt, total-bound, total-one}
 use Rattle.poly.specs.Polynomial.{Coefficients}
 use Rattle.buffers.specs.Place.{place}
 use Rattle.buffers.specs.Held.{Held, matrixOf}
@@ -30,7 +29,7 @@ use Rattle.reduction.specs.Pair.{Pair, NoPair, ordered-by, target, Reducing}
 use Rattle.reduction.specs.Step.{Carried, begin, advance}
 use Rattle.reduction.specs.Process.{halt, more}
 use Rattle.reduction.specs.Run.{advance-pair, Runs}
-use Rattle.reduction.proofs.Index.{height-pos, height-bound}
+use Rattle.reduction.proofs.Index.{height-pos}
 use Rattle.reduction.proofs.Pair.{target-reducing}
 use Rattle.reduction.proofs.Lowering.{Lowered, value-le}
 use Rattle.reduction.proofs.Degrees.{D, spent-since, Narrow, narrow-start, degrees-most}

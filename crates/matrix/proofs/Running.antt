@@ -1,29 +1,24 @@
 -- The loop over the steps: what holds at its head, what a step asks, and what is left at the end.
-use mathlib.Core.Path.{_≡_, refl, sym, ap, subst, _∙_}
+use mathlib.Core.Path.{_≡_, refl, ap, _∙_}
 use mathlib.Core.Logic.{_≢_}
 use mathlib.Core.List.{List}
 use Prim.Native.Nat.{ℕ, zero, suc, _+_, _-_, _*_, _≤_, _<_}
 use native.Mathlib.Nat as N
 use native.Mathlib.Omega.{arith}
 use native.Mathlib.Decide.{ℕ-discrete}
-use lib.ListN.{length, getD, set, length-set}
-use lib.Seq.{getD-set-same, getD-set-other}
+use lib.ListN.{length, getD, length-set}
+use lib.Seq.{getD-set-other}
 use Rattle.algebra.specs.Prime.{Prime}
 use Rattle.lists.specs.Total.{total}
 use Rattle.lists.proofs.Total.{total-same, total-change}
-use Rattle.poly.specs.Polynomial.{Coefficients}
-use Rattle.buffers.specs.Place.{place}
 use Rattle.buffers.proofs.Place.{by-rows}
 use Rattle.buffers.proofs.Held.{held-coefficients}
-use Rattle.rows.specs.Asked.{Short}
-use Rattle.reduction.specs.Pivot.{index, height}
-use Rattle.reduction.specs.Pair.{Pair, NoPair, target, Reducing}
-use Rattle.reduction.proofs.Index.{height-pos, clash-second}
-use Rattle.pivots.specs.Columns.{Indices}
+use Rattle.reduction.specs.Pivot.{index}
+use Rattle.reduction.specs.Pair.{Reducing}
+use Rattle.reduction.proofs.Index.{clash-second}
 use Rattle.pivots.specs.Pair.{NextAsked, IsNextOf}
 use Rattle.pivots.specs.Pivot.{Pivots, leastDegree}
 use Rattle.pivots.specs.declared.pair.Next.the-variants.{Nothing, Rows}
-use Rattle.stepping.specs.Move.{Moved}
 use Rattle.stepping.specs.Asked.{AdvanceAsked, Advanced}
 use Rattle.matrix.specs.Running.{RunAsked, Ran}
 use Rattle.stepping.proofs.Following.{renew-asked}

@@ -1,7 +1,6 @@
 -- The result of the reduction.
 use mathlib.Core.List.{List}
 use Prim.Native.Nat.{ℕ, _<_}
-use Rattle.algebra.specs.Field.{Field}
 use Rattle.algebra.specs.Prime.{Prime}
 use Rattle.algebra.specs.Residue.{Zp}
 use Rattle.algebra.proofs.PrimeField.{zp-field}

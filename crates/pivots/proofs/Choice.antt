@@ -1,10 +1,10 @@
 -- The loops that look for a second row on a column in use, for a row's partner, and for the lowest row that has one.
-use mathlib.Core.Path.{_≡_, refl, sym, ap, subst, _∙_}
-use mathlib.Core.Logic.{_≢_, _⊎_, inl, inr, ⊎-elim}
+use mathlib.Core.Path.{_≡_, sym, subst, _∙_}
+use mathlib.Core.Logic.{_≢_, _⊎_, inl, inr}
 use mathlib.Core.List.{List}
 use Prim.Native.Nat.{ℕ, _+_, _≤_, _<_}
 use native.Mathlib.Omega.{arith}
-use lib.ListN.{length, getD}
+use lib.ListN.{getD}
 use Rattle.algebra.proofs.Cases.{case-le}
 use Rattle.pivots.specs.Columns.{In, Entered, Meets, Second}
 use Rattle.pivots.specs.Pair.{Partner, Chosen}

@@ -1,13 +1,13 @@
 -- The rows that are chosen by pivot indices and degrees are those of the pair of the rows' values.
-use mathlib.Core.Path.{_≡_, refl, sym, ap₂, subst, _∙_}
+use mathlib.Core.Path.{_≡_, sym, ap₂, subst, _∙_}
 use mathlib.Core.Logic.{_⊎_, inl, inr}
 use mathlib.Core.List.{List}
 use Prim.Native.Nat.{ℕ, _≤_, _<_}
 use native.Mathlib.Decide.{decLt}
 use native.Mathlib.Omega.{arith}
-use lib.ListN.{length, getD}
+use lib.ListN.{getD}
 use Rattle.reduction.specs.Pivot.{index, height, Clash}
-use Rattle.reduction.specs.Pair.{Pair, NoPair, ordered-by, target}
+use Rattle.reduction.specs.Pair.{Pair, ordered-by, target}
 use Rattle.pivots.specs.Columns.{Meets}
 use Rattle.pivots.specs.Pivot.{Pivots}
 use Rattle.pivots.specs.Pair.{Chosen, IsNext, IsNextOf}

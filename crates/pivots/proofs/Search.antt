@@ -13,7 +13,7 @@ use Rattle.lists.proofs.Part.{length-part, getD-part}
 use Rattle.reduction.specs.Pivot.{index, height}
 use Rattle.reduction.proofs.Index.{index-some, height-some}
 use Rattle.pivots.specs.Pivot.{Line, RowAsked, IsPivotOf, valueOf, rowOf}
-use Rattle.lists.proofs.Grid.{line-less, within, one-line}
+use Rattle.lists.proofs.Grid.{line-less, within}
 
 -- the coefficients of degree t
 abbrev pub line : List ℕ → ℕ → ℕ → ℕ → ℕ

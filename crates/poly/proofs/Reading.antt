@@ -10,7 +10,7 @@ use lib.IntN.{pos, negsuc, predℤ, natAbs, pos-ne-negsuc}
 use lib.ListN.{length, getD}
 use borrow.Author.Tests.{le-leb, lt-leb}
 use Rattle.algebra.specs.Field.{Field}
-use Rattle.algebra.specs.Polynomial.{Below, Degree}
+use Rattle.algebra.specs.Polynomial.{Degree}
 use Rattle.algebra.specs.Prime.{Prime}
 use Rattle.algebra.specs.Residue.{Zp, of}
 use Rattle.algebra.specs.Series.{mono, const}
@@ -70,9 +70,6 @@ module _ (p : ℕ) (P : Prime p) where
   number-zero a e = zp-path _ _ (e ∙ sym (field-zero p P))
 
   module _ (l : List ℕ) (f : ℕ → Zp p) (h : Holds p l f) where
-    pub holds-below : Below (K .ring) f (length l)
-    holds-below k past = number-zero (f k) (sym (h .at k) ∙ getD-past l k past)
-
     last : IsLast (length l) (λ i. getD l i 0) (height l)
     last = last-is (length l) (λ i. getD l i 0)
 

@@ -1,5 +1,5 @@
 -- Moduli and residues, as numbers.
-use Prim.Native.Nat.{ℕ, _+_, _*_, _-_, _/_, _%_, _<_, _≤_}
+use Prim.Native.Nat.{ℕ, _*_, _/_, _%_, _<_, _≤_}
 use mathlib.Core.Path.{_≡_}
 use Rattle.algebra.specs.Prime.{Prime}
 

@@ -111,7 +111,7 @@ impl Residue {
         let mut found = Residue::ONE;
         while 1 < left {
             let q = p / left;
-            found = Residue::of((found.0 as u32) * (p - q), m);
+            found = Residue(m.remainder((found.0 as u32) * (p - q)));
             left = p - q * left;
         }
         found

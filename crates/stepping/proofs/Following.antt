@@ -1,15 +1,14 @@
 -- What a step asks of the operations on rows and columns.
-use mathlib.Core.Path.{_≡_, sym, ap, ap₂, _∙_}
-use mathlib.Core.Logic.{_≢_}
+use mathlib.Core.Path.{_≡_, sym, _∙_}
 use mathlib.Core.List.{List}
-use Prim.Native.Nat.{ℕ, _+_, _-_, _*_, _%_, _≤_, _<_}
+use Prim.Native.Nat.{ℕ, _+_, _-_, _*_, _≤_, _<_}
 use native.Mathlib.Nat.{mod-lt, mul-zero, zero-mod}
 use native.Mathlib.Omega.{arith}
 use lib.ListN.{length, getD}
 use borrow.Author.Tests.{le-leb}
 use Rattle.buffers.specs.Place.{place}
 use Rattle.buffers.specs.Added.{RowAdded}
-use Rattle.rows.specs.Asked.{Multiplier, Short, RowsInBuffer, LinePair}
+use Rattle.rows.specs.Asked.{Short, RowsInBuffer, LinePair}
 use Rattle.lists.proofs.Grid.{one-line}
 use Rattle.stepping.specs.Move.{Factor}
 use Rattle.stepping.specs.Asked.{PlanAsked, AdvanceAsked, RenewAsked}

@@ -2,11 +2,10 @@
 use mathlib.Core.Path.{_≡_, sym, _∙_, ap, ap₂, subst}
 use mathlib.Core.Logic.{_≢_}
 use mathlib.Core.List.{List}
-use Prim.Native.Nat.{ℕ, zero, suc, _+_, _-_, _*_, _%_, _≤_, _<_}
+use Prim.Native.Nat.{ℕ, _-_, _*_, _%_, _<_}
 use native.Mathlib.Omega.{arith}
 use native.Mathlib.Nat as N
-use lib.ListN.{length, getD}
-use Rattle.algebra.specs.Ring.{CommRing}
+use lib.ListN.{getD}
 use Rattle.algebra.specs.Field.{Field}
 use Rattle.algebra.specs.Prime.{Prime}
 use Rattle.algebra.specs.Residue.{Zp}
@@ -16,8 +15,7 @@ use Rattle.algebra.proofs.Ring as Ring
 use Rattle.algebra.proofs.PrimeField.{zp-field, field-mul}
 use Rattle.algebra.proofs.Residue.{zp-path}
 use Rattle.algebra.proofs.Series.{series}
-use Rattle.lattice.specs.Term.{Term}
-use Rattle.lattice.specs.Row.{Row, coef}
+use Rattle.lattice.specs.Row.{Row}
 use Rattle.lattice.specs.PolynomialMatrix.{AllBounded}
 use Rattle.buffers.specs.Place.{place}
 use Rattle.buffers.specs.Held.{Held}

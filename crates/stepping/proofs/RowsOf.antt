@@ -1,5 +1,5 @@
 -- The rows of a matrix in a list, and their pivots before and after a step.
-use mathlib.Core.Path.{_≡_, refl, sym, ap, ap₂, subst, _∙_}
+use mathlib.Core.Path.{_≡_, sym, ap, ap₂, subst, _∙_}
 use mathlib.Core.Logic.{_≢_}
 use mathlib.Core.List.{List}
 use Prim.Native.Nat.{ℕ, suc, _+_, _-_, _*_, _/_, _%_, _≤_, _<_}
@@ -7,20 +7,19 @@ use native.Mathlib.Nat as N
 use native.Mathlib.Decide.{ℕ-discrete}
 use Rattle.algebra.proofs.Cases.{case-le}
 use native.Mathlib.Omega.{arith}
-use lib.ListN.{length, getD, set, length-set}
+use lib.ListN.{length, getD}
 use lib.Seq.{ext-getD, getD-set-same, getD-set-other}
 use Rattle.algebra.specs.Prime.{Prime}
 use Rattle.poly.specs.Modulus.{Ready}
 use Rattle.poly.specs.Polynomial.{Coefficients}
-use Rattle.lists.proofs.Last.{last-is, last-unique}
+use Rattle.lists.proofs.Last.{last-is}
 use Rattle.lists.proofs.Part.{length-part, getD-part}
 use Rattle.buffers.specs.Place.{place}
 use Rattle.buffers.specs.Added.{RowAdded}
-use Rattle.buffers.proofs.Place.{place-own, place-hit}
 use Rattle.rows.specs.Asked.{Short}
 use Rattle.reduction.specs.Pivot.{pivot, index, height}
 use Rattle.reduction.specs.Pair.{Reducing}
-use Rattle.reduction.proofs.Index.{index-some, height-some, height-pos, height-bound, clash-first, clash-second}
+use Rattle.reduction.proofs.Index.{index-some, height-some, height-bound, clash-first, clash-second}
 use Rattle.pivots.specs.Pivot.{valueOf, rowOf, IsPivotOf, Pivots}
 use Rattle.lists.proofs.Grid.{line-end, within}
 use Rattle.pivots.proofs.Search.{past-height}

@@ -1,8 +1,8 @@
 -- One step on the buffers, by numbers.
 use mathlib.Core.Path.{_≡_}
 use mathlib.Core.List.{List}
-use Prim.Native.Nat.{ℕ, _+_, _*_, _-_, _%_, _<_}
-use lib.ListN.{length, getD}
+use Prim.Native.Nat.{ℕ, _*_, _-_, _%_, _<_}
+use lib.ListN.{getD}
 use Rattle.buffers.specs.Place.{place}
 use Rattle.buffers.specs.Added.{RowAdded, ColumnAdded}
 

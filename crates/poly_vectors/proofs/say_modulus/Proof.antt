@@ -1,4 +1,3 @@
-use native.Mathlib.Omega.{arith}
 use borrow.Author.Needs.{needs}
 use Rattle.poly_vectors.proofs.say_modulus.Statement.{statement}
 use Rattle.poly_vectors.proofs.say_modulus.Tie as tie

@@ -1,4 +1,3 @@
-use borrow.Author.Needs.{needs}
 use native.Mathlib.Omega.{arith}
 use Rattle.algebra.proofs.Flag.{says-no}
 use borrow.Author.Tests.{leb-true, le-leb}

@@ -1,5 +1,4 @@
 use borrow.Author.Needs.{needs}
-use native.Mathlib.Omega.{arith}
 use Rattle.matrix.proofs.NonzeroRows.{sign-some}
 use Rattle.matrix.proofs.listing.sign.Statement.{statement}
 use Rattle.matrix.proofs.listing.sign.Tie as tie

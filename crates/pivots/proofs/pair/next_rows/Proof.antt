@@ -1,4 +1,3 @@
-use native.Mathlib.Omega.{arith}
 use borrow.Author.Needs.{needs}
 use Rattle.algebra.proofs.Flag.{denied}
 use Rattle.pivots.proofs.pair.next_rows.Statement.{statement}

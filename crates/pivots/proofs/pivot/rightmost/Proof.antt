@@ -1,4 +1,3 @@
-use borrow.Author.Needs.{needs}
 use native.Mathlib.Omega.{arith}
 use Rattle.lists.proofs.Grid.{one-line}
 use Rattle.pivots.proofs.Search.{Searching, searching-start, searching-fits, searching-found, searching-on, searching-none}

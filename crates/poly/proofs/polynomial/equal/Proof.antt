@@ -1,11 +1,9 @@
 use borrow.Author.Needs.{needs}
 use native.Mathlib.Omega.{arith}
-use mathlib.Core.Path.{_≡_, refl, sym, _∙_}
+use mathlib.Core.Path.{_≡_, sym, _∙_}
 use Prim.Native.Nat.{ℕ, _≤_, _<_, _-_}
 use lib.ListN.{length, getD}
 use borrow.Author.Count.{below-more}
-use Rattle.lists.proofs.Change.{getD-past}
-use Rattle.poly.specs.Polynomial.{SamePolynomial}
 use Rattle.algebra.proofs.Flag.{says-yes, says-no}
 use Rattle.poly.proofs.Places.{same-upto}
 use Rattle.poly.proofs.polynomial.equal.Statement.{statement}

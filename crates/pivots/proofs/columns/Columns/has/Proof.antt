@@ -1,6 +1,5 @@
 use native.Mathlib.Omega.{arith}
 use borrow.Author.Needs.{needs}
-use Prim.Native.Nat.{_<_}
 use Rattle.algebra.proofs.Flag.{says-no}
 use Rattle.pivots.proofs.Bits.{has-bit}
 use Rattle.pivots.proofs.columns.Columns.has.Statement.{statement}

@@ -1,5 +1,4 @@
 use borrow.Author.Needs.{needs}
-use mathlib.Core.Path.{refl}
 use native.Mathlib.Omega.{arith}
 use native.Mathlib.Nat.{div-lt-self}
 use Rattle.poly.proofs.residue.Modulus.of.Statement.{statement}

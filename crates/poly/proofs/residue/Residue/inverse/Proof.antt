@@ -21,17 +21,17 @@ loop-holds c = inverting-start _ _ (search needs) (search needs)
 div-q : tie.Need-div-q Inv-loop μ-loop
 div-q c = search needs
 
-cast-of : tie.Need-cast-of Inv-loop μ-loop
-cast-of c = search needs
+cast-remainder : tie.Need-cast-remainder Inv-loop μ-loop
+cast-remainder c = search needs
 
-sub-of : tie.Need-sub-of Inv-loop μ-loop
-sub-of c = div-le-self _ _
+sub-remainder : tie.Need-sub-remainder Inv-loop μ-loop
+sub-remainder c = div-le-self _ _
 
-mul-of : tie.Need-mul-of Inv-loop μ-loop
-mul-of c = omega (arith, inverting-fits _ _ _ _ (c .before .before .loop .inv) (search needs))
+mul-remainder : tie.Need-mul-remainder Inv-loop μ-loop
+mul-remainder c = omega (arith, inverting-fits _ _ _ _ (c .before .before .loop .inv) (search needs))
 
-of-requires : tie.Need-of-requires Inv-loop μ-loop
-of-requires c κs = search needs
+remainder-requires : tie.Need-remainder-requires Inv-loop μ-loop
+remainder-requires c κs = search needs
 
 mul-left : tie.Need-mul-left Inv-loop μ-loop
 mul-left c = record { fits = lt-of-le-of-lt (div-mul-le-self _ _) (search needs) }
@@ -45,7 +45,7 @@ loop-less c = inverting-less _ _ _ _ (c .before .before .before .loop .inv)
 loop-again : tie.Need-loop-again Inv-loop μ-loop
 loop-again c =
     let at = c .before .before .before in
-    rw (c .of .ensures) (inverting-turn _ _ _ _ (at .loop .inv) (at .before .before .pre .1 .0) (search needs))
+    rw (c .remainder .ensures) (inverting-turn _ _ _ _ (at .loop .inv) (at .before .before .pre .1 .0) (search needs))
 
 returns : tie.Need-returns Inv-loop μ-loop
 returns c = record { one = c .before .loop .inv .is ∙ omega arith; below = c .before .loop .inv .below }
@@ -59,10 +59,10 @@ inverse-spec =
     cast-left
     loop-holds
     div-q
-    cast-of
-    sub-of
-    mul-of
-    of-requires
+    cast-remainder
+    sub-remainder
+    mul-remainder
+    remainder-requires
     mul-left
     sub-left
     loop-less

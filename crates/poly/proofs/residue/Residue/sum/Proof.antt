@@ -1,6 +1,5 @@
 use borrow.Author.Needs.{needs}
 use mathlib.Core.Path.{sym}
-use native.Mathlib.Omega.{arith}
 use native.Mathlib.Nat.{mod-eq-of-lt}
 use Rattle.poly.proofs.Reciprocal.{once-over}
 use Rattle.poly.proofs.residue.Residue.sum.Statement.{statement}
