@@ -11,3 +11,4 @@ pub mod Scaling
 pub mod Carrying
 pub mod PopovForm
 pub mod Facts
+pub mod Equivalence
