@@ -2,12 +2,37 @@
 use mathlib.Core.Path.{_≡_, refl, sym, _∙_, ap, ap₂, fun-ext}
 use mathlib.Core.Logic.{_≢_}
 use Prim.Native.Nat.{ℕ, _<_}
+use native.Mathlib.Decide.{ℕ-discrete}
 use Rattle.algebra.specs.Ring.{CommRing}
 use Rattle.algebra.specs.Sum.{sum}
-use Rattle.algebra.specs.Matrix.{Mat, Same, transpose, setrow, product, identity}
+use Rattle.algebra.specs.Matrix.{Mat, swap, Same, transpose, setrow, product, identity}
 use Rattle.algebra.proofs.Ring as Ring
 use Rattle.algebra.proofs.Cases.{if-equal-same, if-equal-other, if-equal-iff}
 use Rattle.algebra.proofs.Sum.{sum-cong, sum-add, sum-neg, sum-single, sum-swap, sum-mul, mul-sum}
+
+-- what holds of i with j, of j with i, and of every other number with itself, holds of k with the number that it is exchanged with
+pub swap-cases : (C : ℕ → ℕ → Type 0) (i j k : ℕ) → C i j → C j i → (k ≢ i → k ≢ j → C k k) → C k (swap i j k)
+unfolding swap
+swap-cases C i j k first second other = elim (ℕ-discrete k i) [
+  | yes e ↦ rw (e, if-equal-same i j _) first
+  | no ni ↦ rw (if-equal-other k i j _ ni) (elim (ℕ-discrete k j) [
+    | yes e ↦ rw (e, if-equal-same j i j) second
+    | no nj ↦ rw (if-equal-other k j i k nj) (other ni nj)
+  ])
+]
+
+pub swap-first : (i j : ℕ) → swap i j i ≡ j
+swap-first i j = swap-cases (λ k s. k ≡ i → s ≡ j) i j i (λ _. refl) (λ e. sym e) (λ ne _ e. absurd (ne e)) refl
+
+swap-second : (i j : ℕ) → swap i j j ≡ i
+swap-second i j = swap-cases (λ k s. k ≡ j → s ≡ i) i j j (λ e. sym e) (λ _. refl) (λ _ ne e. absurd (ne e)) refl
+
+pub swap-other : (i j k : ℕ) → k ≢ i → k ≢ j → swap i j k ≡ k
+swap-other i j k ni nj = swap-cases (λ l s. l ≡ k → s ≡ l) i j k (λ e. absurd (ni (sym e))) (λ e. absurd (nj (sym e))) (λ _ _ _. refl) refl
+
+-- exchanged twice, every number is itself again
+pub swap-twice : (i j k : ℕ) → swap i j (swap i j k) ≡ k
+swap-twice i j k = swap-cases (λ k s. swap i j s ≡ k) i j k (swap-second i j) (swap-first i j) (swap-other i j k)
 
 module _ {F : Type 0} where
   pub same-refl : (n m : ℕ) (A : Mat F) → Same n m A A

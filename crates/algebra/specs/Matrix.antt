@@ -10,6 +10,10 @@ use Rattle.algebra.specs.Sum.{sum}
 abbrev pub Mat : Type 0 → Type 0
 Mat F = ℕ → ℕ → F
 
+-- i and j exchanged, every other number as it is
+unfoldable pub swap : ℕ → ℕ → ℕ → ℕ
+swap i j k = if-equal k i j (if-equal k j i k)
+
 module _ {F : Type 0} where
   -- A and B agree in their first n rows and m columns
   abbrev pub Same : ℕ → ℕ → Mat F → Mat F → Type 0
@@ -39,6 +43,10 @@ module _ {F : Type 0} (R : CommRing F) where
   -- c times row k is added to row l of A
   abbrev pub addrow : Mat F → ℕ → ℕ → F → Mat F
   addrow A l k c = setrow A l (λ j. R .add (A l j) (R .mul c (A k j)))
+
+  -- row l of A is multiplied by c
+  abbrev pub scalerow : Mat F → ℕ → F → Mat F
+  scalerow A l c = setrow A l (λ j. R .mul c (A l j))
 
   -- row i of A is multiplied by u i
   abbrev pub dilate : (ℕ → F) → Mat F → Mat F

@@ -7,7 +7,7 @@ use native.Mathlib.Omega.{arith}
 use lib.ListN.{length, getD}
 use lib.Seq.{ext-getD}
 use borrow.Author.Tests.{lt-ltb, le-ltb}
-use Rattle.algebra.specs.Matrix.{Same}
+use Rattle.algebra.specs.Matrix.{Same, transpose}
 use Rattle.algebra.specs.Prime.{Prime}
 use Rattle.algebra.specs.Residue.{Zp}
 use Rattle.algebra.proofs.Cases.{case-le}
@@ -18,6 +18,7 @@ use Rattle.lattice.specs.PolynomialMatrix.{AllBounded}
 use Rattle.poly.specs.Polynomial.{Coefficients}
 use Rattle.buffers.specs.Place.{Hit, Layout}
 use Rattle.buffers.specs.Held.{Held, matrixOf}
+use Rattle.buffers.proofs.Place.{turned}
 
 module _ {n m w : ℕ} (L : Layout n m w) (p : ℕ) where
   -- what stands at a place is the coefficient that has the place
@@ -43,6 +44,14 @@ module _ {n m w : ℕ} (L : Layout n m w) (p : ℕ) where
       (λ past. held .beyond i j t li lj past ∙ sym (held′ .beyond i j t li lj past))
       (λ lt. sym (held .at i j t li lj lt) ∙ held′ .at i j t li lj lt)))
 
+  -- only the n rows and m columns count
+  pub held-matrix-same : {l : List ℕ} {M M′ : ℕ → Row (Zp p)} → Same n m M M′ → Held L p l M → Held L p l M′
+  held-matrix-same same held = record {
+    size = held .size;
+    at = λ i j t li lj lt. held .at i j t li lj lt ∙ ap (λ (f : ℕ → Zp p). f t .val) (same i j li lj);
+    beyond = λ i j t li lj past. ap (λ (f : ℕ → Zp p). f t .val) (sym (same i j li lj)) ∙ held .beyond i j t li lj past;
+  }
+
   -- every list of residues that has the length holds a matrix
   pub held-matrixOf : (some : 0 < p) (l : List ℕ) → length l ≡ n * (m * w) → Coefficients p l → Held L p l (matrixOf L p some l)
   unfolding matrixOf
@@ -55,3 +64,18 @@ module _ {n m w : ℕ} (L : Layout n m w) (p : ℕ) where
   -- the matrix has no term that has no place
   pub held-bounded : (P : Prime p) {l : List ℕ} {M : ℕ → Row (Zp p)} → Held L p l M → AllBounded (zp-field p P .ring) n m w M
   held-bounded P held i li j lj t past = zp-path _ _ (held .beyond i j t li lj past ∙ sym (field-zero p P))
+
+  -- the same buffer holds the columns as rows, in the layout that is turned
+  pub held-turned : {l : List ℕ} {M : ℕ → Row (Zp p)} → Held L p l M → Held (turned L) p l (transpose M)
+  held-turned held = record {
+    size = held .size ∙ N.mul-left-comm n m w;
+    at = λ j i t lj li lt. held .at i j t li lj lt;
+    beyond = λ j i t lj li past. held .beyond i j t li lj past;
+  }
+
+  pub held-turned-back : {l : List ℕ} {M : ℕ → Row (Zp p)} → Held (turned L) p l M → Held L p l (transpose M)
+  held-turned-back held = record {
+    size = held .size ∙ N.mul-left-comm m n w;
+    at = λ i j t li lj lt. held .at j i t lj li lt;
+    beyond = λ i j t li lj past. held .beyond j i t lj li past;
+  }

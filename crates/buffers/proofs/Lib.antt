@@ -1,4 +1,7 @@
 pub mod Place
 pub mod Held
+pub mod Written
 pub mod Added
+pub mod Scaled
+pub mod Exchanged
 pub mod Diagonal

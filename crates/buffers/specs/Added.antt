@@ -1,12 +1,11 @@
 -- Multiples of cells that are added to other cells, place by place.
-use mathlib.Core.Path.{_≡_}
-use mathlib.Core.Logic.{_≢_}
 use mathlib.Core.List.{List}
-use Prim.Native.Nat.{ℕ, _+_, _*_, _-_, _%_, _<_}
-use lib.ListN.{length, getD}
+use Prim.Native.Nat.{ℕ, _+_, _*_, _-_, _%_}
+use lib.ListN.{getD}
 use lib.Dec.{leb}
 use Rattle.buffers.specs.Place.{place}
 use Rattle.buffers.specs.Where.{whereTrue}
+use Rattle.buffers.specs.Written.{CellsWritten}
 
 -- the coefficient at degree t of x^e times f
 abbrev pub raised : ℕ → (ℕ → ℕ) → ℕ → ℕ
@@ -14,10 +13,9 @@ raised e f t = whereTrue (leb e t) (f (t - e))
 
 -- b became b′: to each of `count` cells of b, c·x^e times a cell of s was added, modulo p, and no other place was written.
 -- Cell i has its coefficient of degree t at `to i t`, and what is added to it stands at `from i t`.
-pub record CellsAdded (p c e w count : ℕ) (to from : ℕ → ℕ → ℕ) (s b b′ : List ℕ) : Type 0 where
-  pub size : length b′ ≡ length b
-  pub sum : (i t : ℕ) → i < count → t < w → getD b′ (to i t) 0 ≡ (getD b (to i t) 0 + c * raised e (λ u. getD s (from i u) 0) t) % p
-  pub others : (x : ℕ) → ((i t : ℕ) → i < count → t < w → x ≢ to i t) → getD b′ x 0 ≡ getD b x 0
+abbrev pub CellsAdded : (p c e w count : ℕ) (to from : ℕ → ℕ → ℕ) (s b b′ : List ℕ) → Type 0
+CellsAdded p c e w count to from s b b′ =
+    CellsWritten w count to (λ i t. (getD b (to i t) 0 + c * raised e (λ u. getD s (from i u) 0) t) % p) b b′
 
 -- the same of one cell, which starts at `to` in b, and one that starts at `from` in s
 abbrev pub CellAdded : (p c e w to from : ℕ) (s b b′ : List ℕ) → Type 0

@@ -1,5 +1,8 @@
 pub mod Place
 pub mod Where
 pub mod Held
+pub mod Written
 pub mod Added
+pub mod Scaled
+pub mod Exchanged
 pub mod Diagonal

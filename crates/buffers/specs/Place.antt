@@ -1,5 +1,6 @@
 -- Where the coefficients of a matrix of polynomials stand in a buffer. A cell is the room of one polynomial.
 use mathlib.Core.Path.{_≡_}
+use mathlib.Core.Logic.{_≢_}
 use Prim.Native.Nat.{ℕ, _+_, _*_, _<_}
 
 -- in a row of cells of w places each: the place of the coefficient of degree t in cell j, "constant term first"
@@ -10,6 +11,10 @@ inRow w j t = j * w + t
 -- "Cells stand row after row, in each row column after column."
 abbrev pub place : ℕ → ℕ → ℕ → ℕ → ℕ → ℕ
 place m w i j t = i * (m * w) + inRow w j t
+
+-- x is no place of `count` cells of w places, of which cell i has its coefficient of degree t at `at i t`
+abbrev pub Outside : (w count : ℕ) (at : ℕ → ℕ → ℕ) (x : ℕ) → Type 0
+Outside w count at x = (i t : ℕ) → i < count → t < w → x ≢ at i t
 
 -- x is the place of a coefficient of n rows and m columns of cells of w places, which stand as `spot` says
 pub record Hit (n m w : ℕ) (spot : ℕ → ℕ → ℕ → ℕ) (x : ℕ) : Type 0 where

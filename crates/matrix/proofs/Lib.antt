@@ -6,3 +6,5 @@ pub mod Facts
 pub mod Unique
 pub mod SingleService
 pub mod SingleStep
+pub mod PopovFacts
+pub mod Finishing

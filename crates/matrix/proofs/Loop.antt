@@ -1,7 +1,7 @@
 -- The loop of the reduction: what is true of the buffers before every step and after the last.
 use mathlib.Core.Path.{_≡_, sym, _∙_, ap, ap₂, subst}
 use mathlib.Core.List.{List}
-use Prim.Native.Nat.{ℕ, zero, suc, _+_, _-_, _*_, _≤_, _<_}
+use Prim.Native.Nat.{ℕ, suc, _+_, _-_, _*_, _≤_, _<_}
 use native.Mathlib.Omega.{arith}
 use native.Mathlib.Decide.{decLt}
 use native.Mathlib.Nat as N
@@ -11,12 +11,12 @@ use Rattle.algebra.specs.Matrix.{identity}
 use Rattle.algebra.specs.Prime.{Prime}
 use Rattle.algebra.specs.Residue.{Zp}
 use Rattle.algebra.proofs.Cases.{case-le}
-use Rattle.algebra.proofs.PrimeField.{zp-field, field-zero}
+use Rattle.algebra.proofs.PrimeField.{zp-field}
 use Rattle.algebra.proofs.Series.{series}
 use Rattle.lattice.specs.Row.{Row}
 use Rattle.lattice.specs.PolynomialMatrix.{AllBounded}
 use Rattle.lists.specs.Total.{total}
-use Rattle.lists.proofs.Total.{total-same, total-lt, total-bound, total-one}
+use Rattle.lists.proofs.Total.{total-same, total-lt}
 use Rattle.poly.specs.Polynomial.{Coefficients}
 use Rattle.buffers.specs.Place.{place}
 use Rattle.buffers.specs.Held.{Held, matrixOf}
@@ -24,6 +24,7 @@ use Rattle.buffers.specs.Diagonal.{Diagonal}
 use Rattle.buffers.proofs.Place.{by-rows}
 use Rattle.buffers.proofs.Held.{held-matrixOf, held-bounded}
 use Rattle.buffers.proofs.Diagonal.{held-identity}
+use Rattle.rows.specs.Asked.{Short}
 use Rattle.reduction.specs.Pivot.{value, values, height, Clash}
 use Rattle.reduction.specs.Pair.{Pair, NoPair, ordered-by, target, Reducing}
 use Rattle.reduction.specs.Step.{Carried, begin, advance}
@@ -32,13 +33,14 @@ use Rattle.reduction.specs.Run.{advance-pair, Runs}
 use Rattle.reduction.proofs.Index.{height-pos}
 use Rattle.reduction.proofs.Pair.{target-reducing}
 use Rattle.reduction.proofs.Lowering.{Lowered, value-le}
-use Rattle.reduction.proofs.Degrees.{D, spent-since, Narrow, narrow-start, degrees-most}
+use Rattle.reduction.proofs.Degrees.{D, spent-since, Narrow, narrow-start}
 use Rattle.pivots.specs.Pivot.{valuesOf, degreesOf, Pivots}
 use Rattle.stepping.specs.Holding.{Holding}
-use Rattle.stepping.specs.Move.{Moved}
+use Rattle.stepping.specs.Move.{FirstMove}
 use Rattle.matrix.specs.Reduced.{ReducedBy}
-use Rattle.stepping.proofs.Value.{value-held, height-most}
-use Rattle.stepping.proofs.Moving.{move-lowers, move-narrow, move-holding}
+use Rattle.stepping.proofs.Value.{value-held}
+use Rattle.stepping.proofs.Moving.{height-is, move-lowers, move-narrow, move-holding}
+use Rattle.stepping.proofs.Short.{u-short, v-short, spent-fits}
 
 -- values that agree on the n rows have the same pairs
 module _ (n m : ℕ) (v v′ : ℕ → ℕ) (e : (i : ℕ) → i < n → v i ≡ v′ i) where
@@ -129,12 +131,9 @@ module _ {p n m w : ℕ} {a : List ℕ} (input : Input p n m w a) (P : Prime p) 
     }
 
     module _ {indices degrees : List ℕ} (pivots : Pivots n m (valuesOf m w r) indices degrees) where
-      height-is : (i : ℕ) → i < n → getD degrees i 0 ≡ height m (value K m w (R i))
-      height-is i li = pivots .row i li .degree-is ∙ ap (height m) (agree i li)
-
       -- a step
       module _ (q : Pair n m (valuesOf m w r)) {l k : ℕ} (e : target m (valuesOf m w r) (q .a) (q .b) ≡ (l, k))
-          {r′ u′ v′ : List ℕ} (d : Moved p n m w l k r u v indices degrees r′ u′ v′) where
+          {r′ u′ v′ : List ℕ} (d : FirstMove p n m w l k r u v indices degrees r′ u′ v′) where
         abbrev t′ : Carried (Zp p)
         t′ = advance K m w l k (inv .t)
 
@@ -175,48 +174,33 @@ module _ {p n m w : ℕ} {a : List ℕ} (input : Input p n m w a) (P : Prime p) 
             new : (i : ℕ) → i < n → value K m w (t′ .R i) ≡ valuesOf m w r′ i
             new i li = value-held p P n m w (holds .R) (input .columns) i li
 
-      -- where row k of the result is not zero, row k of U has no term from its height on and what all degrees have lost since a, less
-      -- what every row of a has
-      pub u-short : (k reach spent least : ℕ) → k < n → 0 < valuesOf m w r k → ((i : ℕ) → i < n → least ≤ degreesOf m w a i)
-          → spent + total n (λ i. getD degrees i 0 - 1) ≡ total n (degreesOf m w a) → reach + least ≡ getD degrees k 0 + spent
-          → (j t : ℕ) → j < n → reach ≤ t → t < n * w → getD u (place n (n * w) k j t) 0 ≡ 0
-      u-short k reach spent least lk nonzero all lost reach-is j t lj from lt =
-          inv .holding .U .at k j t lk lj lt ∙ ap (λ (x : Zp p). x .val) (inv .narrow .u-bound k j lk lj t (omega (arith, from, ends))) ∙ field-zero p P
-        where
-          before : (i : ℕ) → i < n → degreesOf m w a i ≡ D K n m w A i
-          before i li = ap (λ (x : ℕ). height m x - 1) (sym (value-held p P n m w first (input .columns) i li))
+      -- `spent` is what all degrees have lost since a
+      module _ (spent : ℕ) (lost : spent + total n (λ i. getD degrees i 0 - 1) ≡ total n (degreesOf m w a)) where
+        height-now : (i : ℕ) → i < n → getD degrees i 0 ≡ height m (value K m w (R i))
+        height-now = height-is p P n m w (input .columns) r indices degrees R (inv .holding .R) pivots
 
-          now : (i : ℕ) → i < n → getD degrees i 0 - 1 ≡ D K n m w R i
-          now i li = ap (λ (x : ℕ). x - 1) (height-is i li)
+        before : (i : ℕ) → i < n → degreesOf m w a i ≡ D K n m w A i
+        before i li = ap (λ (x : ℕ). height m x - 1) (sym (value-held p P n m w first (input .columns) i li))
 
-          spent-is : spent ≡ spent-since K n m w A (inv .t)
-          spent-is = omega (arith, lost, total-same n _ _ before, total-same n _ _ now)
+        now : (i : ℕ) → i < n → getD degrees i 0 - 1 ≡ D K n m w R i
+        now i li = ap (λ (x : ℕ). x - 1) (height-now i li)
 
-          cut : (h s d reach least : ℕ) → 0 < h → least ≤ d → reach + least ≡ h + s → suc (h - 1 + s) - d ≤ reach
-          cut h s d reach least some le is = omega arith
+        spent-is : spent ≡ spent-since K n m w A (inv .t)
+        spent-is = omega (arith, lost, total-same n _ _ before, total-same n _ _ now)
 
-          ends : suc (D K n m w R k + spent-since K n m w A (inv .t)) - D K n m w A j ≤ reach
-          ends = rw (← spent-is, ← now k lk, ← before j lj) (cut (getD degrees k 0) spent (degreesOf m w a j) reach least
-              (omega (arith, height-is k lk, height-pos m (value K m w (R k)) (omega (arith, agree k lk)))) (all j lj) reach-is)
+        -- U has room for a row so shifted that it is as high as row l
+        pub row-room : (l : ℕ) → l < n → getD degrees l 0 + spent ≤ n * w
+        row-room l ll = omega (arith, spent-is, height-now l ll, spent-fits p P n m w A (inv .holding) (inv .narrow) (input .places) bounded l ll)
 
-      -- column l of V has no term from w - D on, for the pivot degree D of row l of the result
-      pub v-short : (l : ℕ) → l < n
-          → (i t : ℕ) → i < n → w + 1 - getD degrees l 0 ≤ t → t < w → getD v (place n w i l t) 0 ≡ 0
-      v-short l ll i t li from lt =
-          inv .holding .V′ .at i l t li ll lt
-          ∙ ap (λ (x : Zp p). x .val) (inv .narrow .v-bound i l li ll t (omega (arith, height-is l ll, degrees-most K n m w A bounded i li, input .places)))
-          ∙ field-zero p P
+        cut : (h s d reach least : ℕ) → 0 < h → least ≤ d → reach + least ≡ h + s → suc (h - 1 + s) - d ≤ reach
+        cut h s d reach least some le is = omega arith
 
--- U has room for a row so shifted that it is as high as row l
-pub u-room : (n m w : ℕ) (a degrees : List ℕ) (l spent : ℕ) → l < n → 0 < w
-    → spent + total n (λ i. getD degrees i 0 - 1) ≡ total n (degreesOf m w a) → getD degrees l 0 + spent ≤ n * w
-u-room n m w a degrees l spent ll places lost = omega (
-  arith,
-  total-one n l (λ i. getD degrees i 0 - 1) ll,
-  total-bound n (w - 1) (degreesOf m w a) (λ i _. omega (arith, height-most m w a i)),
-  widths w places,
-)
-  where
-    widths : (w : ℕ) → 0 < w → n * (w - 1) + n ≡ n * w
-    widths zero some = absurd (omega arith)
-    widths (suc w) some = let e : suc w - 1 ≡ w = omega arith in rw e (sym (N.mul-suc n w))
+        -- where row k of the result is not zero, row k of U has no term from its height and `spent` on, less what every row of a has
+        pub row-short : (k reach least : ℕ) → k < n → 0 < valuesOf m w r k → ((i : ℕ) → i < n → least ≤ degreesOf m w a i)
+            → reach + least ≡ getD degrees k 0 + spent → Short (n * w) reach n (place n (n * w) k) u
+        row-short k reach least lk nonzero all reach-is = u-short p P n m w A (inv .holding) (inv .narrow) k reach lk (λ j lj.
+            rw (← spent-is, ← now k lk, ← before j lj) (cut (getD degrees k 0) spent (degreesOf m w a j) reach least
+            (omega (arith, height-now k lk, height-pos m (value K m w (R k)) (omega (arith, agree k lk)))) (all j lj) reach-is))
+
+      pub column-short : (l : ℕ) → l < n → Short w (w + 1 - getD degrees l 0) n (λ i. place n w i l) v
+      column-short = v-short p P n m w A (inv .holding) (inv .narrow) (input .columns) (input .places) bounded pivots

@@ -11,8 +11,6 @@ use lib.Seq.{getD-set-other}
 use Rattle.algebra.specs.Prime.{Prime}
 use Rattle.lists.specs.Total.{total}
 use Rattle.lists.proofs.Total.{total-same, total-change}
-use Rattle.buffers.proofs.Place.{by-rows}
-use Rattle.buffers.proofs.Held.{held-coefficients}
 use Rattle.reduction.specs.Pivot.{index}
 use Rattle.reduction.specs.Pair.{Reducing}
 use Rattle.reduction.proofs.Index.{clash-second}
@@ -25,7 +23,8 @@ use Rattle.stepping.proofs.Following.{renew-asked}
 use Rattle.pivots.proofs.LeastDegree.{least-below}
 use Rattle.pivots.specs.Pivot.{valuesOf, degreesOf}
 use Rattle.stepping.proofs.Value.{values-total}
-use Rattle.matrix.proofs.Loop.{Input, LoopAt, loop-reducing, loop-start, loop-last, loop-turn, loop-falls, u-short, u-room, v-short}
+use Rattle.stepping.proofs.Short.{holding-matrices}
+use Rattle.matrix.proofs.Loop.{Input, LoopAt, loop-reducing, loop-start, loop-last, loop-turn, loop-falls, row-room, row-short, column-short}
 use Rattle.stepping.proofs.RowsOf.{height-under, list-short, plan-asked, size-after, pivots-after}
 
 -- a pivot index is a column or 0
@@ -133,37 +132,41 @@ module _ {p reciprocal n m w : ℕ} {a u₀ v₀ spare₀ index₀ degree₀ r u
   reach-fits = (
     omega (arith, inv .above k k-fits),
     omega (arith, reducing .degrees, inv .pivots .row l l-fits .degree-is, inv .pivots .row k k-fits .degree-is),
-    u-room n m w a degrees l spent l-fits (asked .places) (inv .lost),
+    row-room (input asked) (asked .prime) (positive asked) (here asked inv) (inv .pivots) spent (inv .lost) l l-fits,
     asked .cell-few,
   )
 
   pub advance-asked : AdvanceAsked p reciprocal n m w l k (getD degrees k 0 + spent - leastDegree w n degree₀) r u v spare indices degrees
-  advance-asked = record {
-    plan = plan-asked n m w (asked .columns) r (size asked inv) indices degrees (inv .pivots) (asked .ready) (asked .prime) (held-coefficients (by-rows n m w) p ((here asked inv) .holding .R)) (index-room asked inv) (degree-room asked inv) reducing;
-    columns = asked .columns;
-    l-fits = l-fits;
-    k-fits = k-fits;
-    differ = reducing .apart;
-    u-size = (here asked inv) .holding .U .size;
-    v-size = (here asked inv) .holding .V′ .size;
-    u-residues = held-coefficients (by-rows n n (n * w)) p ((here asked inv) .holding .U);
-    v-residues = held-coefficients (by-rows n n w) p ((here asked inv) .holding .V′);
-    l-short = list-short n m w (asked .columns) r (size asked inv) indices degrees (inv .pivots) l l-fits;
-    k-short = list-short n m w (asked .columns) r (size asked inv) indices degrees (inv .pivots) k (reducing .k-fits);
-    u-short = record {
-      zero = u-short (input asked) (asked .prime) (positive asked) (here asked inv) (inv .pivots) k _ spent (leastDegree w n degree₀) k-fits (clash-second (reducing .clash))
-          (λ i li. omega (arith, least-below w n degree₀ i li, first-degrees asked i li)) (inv .lost) (omega (arith, reach-fits));
-    };
-    u-room = omega (arith, reach-fits);
-    v-short = record { zero = v-short (input asked) (asked .prime) (positive asked) (here asked inv) (inv .pivots) l l-fits };
-    row-room = omega (arith, inv .lengths .spare-same, asked .row-room);
-    cell-room = omega (arith, inv .lengths .spare-same, asked .cell-room);
-  }
+  advance-asked =
+      let at = here asked inv in
+      let matrices = holding-matrices (at .holding) in
+      let plan = plan-asked n m w (asked .columns) r (size asked inv) indices degrees (inv .pivots)
+      (asked .ready) (asked .prime) (matrices .r-residues) (index-room asked inv) (degree-room asked inv) reducing in
+      record {
+        plan = plan;
+        columns = asked .columns;
+        l-short = list-short n m w (asked .columns) r (size asked inv) indices degrees (inv .pivots) l l-fits;
+        move = record {
+          matrices = matrices;
+          l-fits = l-fits;
+          k-fits = k-fits;
+          differ = reducing .apart;
+          r-short = list-short n m w (asked .columns) r (size asked inv) indices degrees (inv .pivots) k k-fits;
+          u-short = row-short (input asked) (asked .prime) (positive asked) at (inv .pivots) spent (inv .lost) k _ (leastDegree w n degree₀) k-fits
+              (clash-second (reducing .clash)) (λ i li. omega (arith, least-below w n degree₀ i li, first-degrees asked i li)) (omega (arith, reach-fits));
+          v-short = column-short (input asked) (asked .prime) (positive asked) at (inv .pivots) l l-fits;
+          r-room = omega (arith, reach-fits, plan .l-pivot .leading .height-most);
+          u-room = omega (arith, reach-fits);
+          v-room = omega (arith, reach-fits, plan .l-pivot .leading .height-most, plan .k-pivot .leading .height);
+          row-room = omega (arith, inv .lengths .spare-same, asked .row-room);
+          cell-room = omega (arith, inv .lengths .spare-same, asked .cell-room);
+        };
+      }
 
   -- after the step
   module _ (r′ u′ v′ indices′ degrees′ : List ℕ) (d : Advanced p n m w l k r u v indices degrees r′ u′ v′ indices′ degrees′) where
     after : Pivots n m (valuesOf m w r′) indices′ degrees′
-    after = pivots-after p n m w _ _ l k r r′ (size asked inv) l-fits (d .moved .r-move) indices degrees indices′ degrees′ (index-room asked inv) (degree-room asked inv) (inv .pivots) (d .renewed)
+    after = pivots-after p n m w _ _ l k r r′ (size asked inv) l-fits (d .moved .subtracted .r-move) indices degrees indices′ degrees′ (index-room asked inv) (degree-room asked inv) (inv .pivots) (d .renewed)
 
     same-degrees : length degrees′ ≡ length degrees
     same-degrees = ap length (d .renewed .degrees-are) ∙ length-set degrees l _
@@ -174,8 +177,9 @@ module _ {p reciprocal n m w : ℕ} {a u₀ v₀ spare₀ index₀ degree₀ r u
     -- the height of row l has not grown
     pub lower : getD degrees′ l 0 ≤ getD degrees l 0
     lower =
-        let h = height-under n m w (asked .columns) r′ (size-after p n m w _ _ l k r r′ (size asked inv) l-fits (d .moved .r-move)) l (getD degrees l 0) l-fits
-        (renew-asked _ _ _ _ _ _ _ _ _ _ _ _ _ _ advance-asked _ _ _ (d .moved .factor) r′ (d .moved .r-move) .short) in
+        let h = height-under n m w (asked .columns) r′ (size-after p n m w _ _ l k r r′ (size asked inv) l-fits (d .moved .subtracted .r-move)) l (getD degrees l 0) l-fits
+        (renew-asked _ _ _ _ _ _ _ _ _ (advance-asked .plan) _ _ _ (d .moved .divided) r′ (d .moved .subtracted .r-move)
+        (asked .columns) (advance-asked .l-short) (advance-asked .move .r-short) .short) in
         omega (arith, after .row l l-fits .degree-is)
 
     pub falls : total n (valuesOf m w r′) < total n (valuesOf m w r)
@@ -191,9 +195,9 @@ module _ {p reciprocal n m w : ℕ} {a u₀ v₀ spare₀ index₀ degree₀ r u
         → Running p n m w a u₀ v₀ spare₀ index₀ degree₀ r′ u′ v′ spare′ indices′ degrees′ (count + 1) (spent + (high - low))
     running-on spare′ same high low high-is low-is = record {
       lengths = record {
-        r-same = d .moved .r-move .size ∙ inv .lengths .r-same;
-        u-same = d .moved .u-move .size ∙ inv .lengths .u-same;
-        v-same = d .moved .v-move .size ∙ inv .lengths .v-same;
+        r-same = d .moved .subtracted .r-move .size ∙ inv .lengths .r-same;
+        u-same = d .moved .subtracted .u-move .size ∙ inv .lengths .u-same;
+        v-same = d .moved .subtracted .v-move .size ∙ inv .lengths .v-same;
         spare-same = same ∙ inv .lengths .spare-same;
         index-same = ap length (d .renewed .indices-are) ∙ length-set indices l _ ∙ inv .lengths .index-same;
         degree-same = same-degrees ∙ inv .lengths .degree-same;

@@ -107,7 +107,7 @@ module _ {p reciprocal n m w : ℕ} {r : List ℕ} (asked : InputAsked p recipro
               let (q, q-is) = pair-same n m _ _ (agree P some) (next .0) (l, k) (next .1) in
               record {
                 held = subst (Held (by-rows n m w) p r′) (sym (step-rows P some q q-is))
-                    (step-held p P n m w (asked .columns) r indices degrees (A P some) (first P some) pivots l k (loop-reducing q q-is) e c f g added);
+                    (step-held p P n m w (asked .columns) r indices degrees (A P some) (first P some) pivots l k (loop-reducing q q-is) g added);
                 counted = inr (refl, q);
               };
         }

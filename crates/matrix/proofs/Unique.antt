@@ -32,7 +32,7 @@ use Rattle.matrix.specs.declared.reducing.Answer.{Answer}
 use Rattle.matrix.specs.declared.reducing.Answer.the-variants.{NotDone, Done}
 
 -- the state determines the three buffers
-holding-unique : {p n m w : ℕ} {r u v r′ u′ v′ : List ℕ} {t : Carried (Zp p)} → Holding p n m w r u v t → Holding p n m w r′ u′ v′ t
+pub holding-unique : {p n m w : ℕ} {r u v r′ u′ v′ : List ℕ} {t : Carried (Zp p)} → Holding p n m w r u v t → Holding p n m w r′ u′ v′ t
     → (r ≡ r′) × (u ≡ u′) × (v ≡ v′)
 holding-unique {p} {n} {m} {w} h h′ =
     (held-unique (by-rows n m w) p (h .R) (h′ .R), held-unique (by-rows n n (n * w)) p (h .U) (h′ .U), held-unique (by-rows n n w) p (h .V′) (h′ .V′))

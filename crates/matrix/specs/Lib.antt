@@ -4,3 +4,4 @@ pub mod Listed
 pub mod Answer
 pub mod Facts
 pub mod Single
+pub mod Popov

@@ -49,7 +49,7 @@ fn skip(a: &[u16]) -> usize
 }
 
 // The places up to the last coefficient that is not zero.
-fn used(a: &[u16]) -> usize
+pub fn used(a: &[u16]) -> usize
     ensures { λ r. ⌜ (r ≡ height (now (a .entry))) × (r ≤ length (now (a .entry))) ⌝ }
 {
     let mut n = skip(a);

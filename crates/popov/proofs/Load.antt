@@ -1,10 +1,11 @@
 -- A measure of the excesses h of a row over the k rows before it: each counts as no less than one below the greatest.
 -- It falls where the greatest becomes less and no other grows beyond that.
+use mathlib.Core.Path.{_≡_}
 use Prim.Native.Nat.{ℕ, zero, suc, _+_, _-_, _*_, _≤_, _<_}
 use native.Mathlib.Omega.{arith}
 use Rattle.lattice.proofs.Upto.{extend}
 use Rattle.lists.specs.Total.{total}
-use Rattle.lists.proofs.Total.{total-lt, total-bound}
+use Rattle.lists.proofs.Total.{total-same, total-lt, total-bound}
 use Rattle.popov.specs.SecondKind.{Highest}
 
 greatest : ℕ → (ℕ → ℕ) → ℕ
@@ -23,6 +24,16 @@ greatest-least (suc k) b h f = omega (arith, greatest-least k b h (λ j l. f j (
 
 pub load : ℕ → (ℕ → ℕ) → ℕ
 load k h = total k (λ j. h j + (greatest k h - 1 - h j))
+
+-- only the k excesses count
+pub load-same : (k : ℕ) (h h′ : ℕ → ℕ) → ((j : ℕ) → j < k → h j ≡ h′ j) → load k h ≡ load k h′
+unfolding load
+load-same k h h′ same = total-same k _ _ (λ j l. omega (
+  arith,
+  same j l,
+  greatest-least k (greatest k h′) h (λ i li. omega (arith, same i li, greatest-le k h′ i li)),
+  greatest-least k (greatest k h) h′ (λ i li. omega (arith, same i li, greatest-le k h i li)),
+))
 
 pub load-falls : (k : ℕ) (h h′ : ℕ → ℕ) (d : Highest k h) → h′ (d .at) < h (d .at)
     → ((j : ℕ) → j < k → h′ j ≤ h j + (h (d .at) - 1 - h j)) → load k h′ < load k h

@@ -35,7 +35,7 @@ module _ {F : Type 0} (K : Field F) where
     abbrev divided : Row F
     divided c = series (K .ring) .mul (const (K .ring) (inverse K m size r)) (r c)
 
-    inverse-is : inverse K m size r ⊛ divisor K m size r ≡ 𝟙
+    pub inverse-is : inverse K m size r ⊛ divisor K m size r ≡ 𝟙
     inverse-is = go (value K m size r) (λ p. value-lead K m size r b p .top)
       where
         go : (v : ℕ) → (0 < v → leading K m size r ≢ 𝟘) → where-some K m size v (K .inv (leading K m size r)) ⊛ where-some K m size v (leading K m size r) ≡ 𝟙

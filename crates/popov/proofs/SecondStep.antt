@@ -135,11 +135,12 @@ module _ {F : Type 0} (K : Field F) (n m size : ℕ) where
         | no ne ↦ omega (arith, new-excess j, other-less j lj ne)
       ])
 
+      -- no other row's excesses change
+      pub excesses-kept : (a : ℕ) → a ≢ k → x M′ a ≡ x M a
+      excesses-kept a ne = fun-ext (λ j. excess-kept (M′ a) j ∙ ap (λ f. excess K m size f (M j)) (others a ne))
+
       pub left-falls : left M′ < left M
       left-falls = total-lt n k _ _ (p .fits) load-less (λ a _. elim (ℕ-discrete a k) [
         | yes e ↦ rw e (omega (arith, load-less))
         | no ne ↦ rw (excesses-kept a ne) (omega arith)
       ])
-        where
-          excesses-kept : (a : ℕ) → a ≢ k → x M′ a ≡ x M a
-          excesses-kept a ne = fun-ext (λ j. excess-kept (M′ a) j ∙ ap (λ f. excess K m size f (M j)) (others a ne))

@@ -24,8 +24,19 @@ height-some m (suc x) l = refl
 pub height-pos : (m v : ℕ) → 0 < v → 0 < height m v
 height-pos m v l = omega (arith, height-some m v l)
 
+-- of any row, by what stands for a pivot that a zero row has not
+pub index-less : (m v : ℕ) → index m v - 1 ≡ pivot m v .col
+unfolding index
+index-less m zero = sym (N.zero-mod m)
+index-less m (suc x) = omega arith
+
+pub height-less : (m v : ℕ) → height m v - 1 ≡ pivot m v .deg
+unfolding height
+height-less m zero = sym (N.zero-div m)
+height-less m (suc x) = omega arith
+
 -- a row with a pivot index is not zero
-indexed : (m v : ℕ) → 0 < index m v → 0 < v
+pub indexed : (m v : ℕ) → 0 < index m v → 0 < v
 unfolding index
 indexed m zero l = absurd (omega arith)
 indexed m (suc x) l = omega arith

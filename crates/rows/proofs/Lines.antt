@@ -1,21 +1,34 @@
--- Two rows or two columns of an n by n matrix, as cells that follow one another at equal distances.
-use mathlib.Core.Path.{_≡_}
+-- Rows and columns of an n by n matrix, as cells that follow one another at equal distances.
+use mathlib.Core.Path.{_≡_, fun-ext}
 use mathlib.Core.Logic.{_≢_}
 use mathlib.Core.List.{List}
 use Prim.Native.Nat.{ℕ, _+_, _*_, _≤_, _<_}
 use native.Mathlib.Omega.{arith}
 use lib.ListN.{length}
+use Rattle.buffers.specs.Place.{place}
+use Rattle.buffers.proofs.Place.{place-own}
 use Rattle.lists.proofs.Grid.{line-end}
 use Rattle.rows.specs.Asked.{spaced, LinePair, CellPairs}
+
+-- the cells of a row follow one another at equal distances, and so do those of a column
+pub rows-spaced : (m w : ℕ) → (λ i. spaced (i * (m * w)) w) ≡ place m w
+rows-spaced m w = fun-ext (λ i. fun-ext (λ j. fun-ext (λ t. omega arith)))
+
+pub columns-spaced : (n w : ℕ) → _≡_ {A = ℕ → ℕ → ℕ → ℕ} (λ x. spaced (x * w) (n * w)) (λ x i. place n w i x)
+columns-spaced n w = fun-ext (λ x. fun-ext (λ i. fun-ext (λ t. omega arith)))
+
+-- row i ends within an n by n matrix, and the cell of column x within its row
+pub cell-ends : {n i x : ℕ} (w : ℕ) → i < n → x < n → (i * (n * w) + n * w ≤ n * (n * w)) × (x * w + w ≤ n * w)
+cell-ends {n} {i} {x} w li lx = (line-end i n (n * w) li, line-end x n w lx)
+
+-- cells in different rows have no place in common
+pub cells-apart : (n w j x t i y u : ℕ) → x < n → t < w → y < n → u < w → j < i → place n w j x t ≢ place n w i y u
+cells-apart n w j x t i y u lx lt ly lu lj same = omega (arith, place-own n w j x t i y u lx lt ly lu same .0)
 
 -- where the two end, as rows of the matrix and as cells of a row
 pub line-ends : {p reciprocal c e n w top x y : ℕ} {from : ℕ → ℕ → ℕ} {b spare : List ℕ} → LinePair p reciprocal c e n w top x y from b spare
     → ((x * (n * w) + n * w ≤ length b) × (x * w + w ≤ n * w)) × ((y * (n * w) + n * w ≤ length b) × (y * w + w ≤ n * w))
-line-ends {n = n} {w} {x = x} {y} pre =
-    let size = pre .size in (
-      (omega (arith, line-end x n (n * w) (pre .x-fits)), line-end x n w (pre .x-fits)),
-      (omega (arith, line-end y n (n * w) (pre .y-fits)), line-end y n w (pre .y-fits)),
-    )
+line-ends {w = w} pre = rw (pre .size) (cell-ends w (pre .x-fits) (pre .x-fits), cell-ends w (pre .y-fits) (pre .y-fits))
 
 -- cell i of the line that is added to starts `i * stride` after `to`, and that of the other line as far after `from`
 pub line-cells : {p reciprocal c e n w top x y : ℕ} {source : ℕ → ℕ → ℕ} {b spare : List ℕ} (to from stride : ℕ)

@@ -6,19 +6,73 @@ use native.Mathlib.Nat.{mod-lt, mul-zero, zero-mod}
 use native.Mathlib.Omega.{arith}
 use lib.ListN.{length, getD}
 use borrow.Author.Tests.{le-leb}
+use Rattle.lists.proofs.Grid.{line-end, within, one-line}
+use Rattle.poly.specs.Modulus.{Ready}
+use Rattle.poly.specs.Polynomial.{Coefficients}
 use Rattle.buffers.specs.Place.{place}
 use Rattle.buffers.specs.Added.{RowAdded}
 use Rattle.rows.specs.Asked.{Short, RowsInBuffer, LinePair}
-use Rattle.lists.proofs.Grid.{one-line}
-use Rattle.stepping.specs.Move.{Factor}
-use Rattle.stepping.specs.Asked.{PlanAsked, AdvanceAsked, RenewAsked}
+use Rattle.stepping.specs.Move.{coefficientAt, Divided, Factor}
+use Rattle.stepping.specs.Asked.{CoefficientAsked, PlanAsked, MoveAsked, SubtractAsked, RenewAsked}
+
+-- a coefficient of the matrix is a residue
+pub coefficient-below : {p m w i x h : ℕ} {r : List ℕ} → Coefficients p r → CoefficientAsked m w i x h r → coefficientAt m w r i x h < p
+coefficient-below {m = m} {w = w} {x = x} {h = h} residues a = residues .below _
+    (omega (arith, a .row, within (x - 1) (h - 1) m w (omega (arith, a .column, a .column-most)) (omega (arith, a .height, a .height-most))))
+
+-- what a subtraction asks of the rows and columns
+module _ {p reciprocal n m w l k e c f r-top u-top v-top : ℕ} {r u v spare : List ℕ}
+    (asked : SubtractAsked p reciprocal n m w l k e c f r-top u-top v-top r u v spare) where
+  open SubtractAsked asked using (ready, c-below, f-below, move)
+
+  pub r-asked : RowsInBuffer p reciprocal f e m w r-top l k r spare
+  r-asked = record {
+    multiplier = record { ready = ready; factor = f-below; room = move .r-room };
+    l-fits = omega (arith, move .matrices .r-size, line-end l n (m * w) (move .l-fits));
+    k-fits = omega (arith, move .matrices .r-size, line-end k n (m * w) (move .k-fits));
+    residues = move .matrices .r-residues;
+    short = move .r-short;
+    spare-room = move .row-room;
+  }
+
+  -- the spare row may have been written before
+  module _ (spare′ : List ℕ) (same : length spare′ ≡ length spare) where
+    pub u-asked : LinePair p reciprocal f e n (n * w) u-top l k (place n (n * w) k) u spare′
+    u-asked = record {
+      multiplier = record { ready = ready; factor = f-below; room = move .u-room };
+      size = move .matrices .u-size;
+      x-fits = move .l-fits;
+      y-fits = move .k-fits;
+      differ = move .differ;
+      residues = move .matrices .u-residues;
+      short = move .u-short;
+      spare-room = omega (arith, move .cell-room, move .u-room);
+    }
+
+    pub v-asked : LinePair p reciprocal c e n w v-top k l (λ i. place n w i l) v spare′
+    v-asked = record {
+      multiplier = record { ready = ready; factor = c-below; room = move .v-room };
+      size = move .matrices .v-size;
+      x-fits = move .k-fits;
+      y-fits = move .l-fits;
+      differ = λ q. move .differ (sym q);
+      residues = move .matrices .v-residues;
+      short = move .v-short;
+      spare-room = omega (arith, move .cell-room, move .v-room, one-line n w (omega (arith, move .l-fits)));
+    }
+
+negative-below : {p a b d e c f : ℕ} → Divided p a b d e c f → f < p
+negative-below {p} {c = c} g = rw (g .f-is) (mod-lt (p - c) (omega (arith, g .c-below)))
+
+-- with the multiple that a division gives
+pub subtract-asked : {p reciprocal n m w l k a b d e c f r-top u-top v-top : ℕ} {r u v spare : List ℕ}
+    → Ready p reciprocal → MoveAsked p n m w l k d r-top u-top v-top r u v spare → Divided p a b d e c f
+    → SubtractAsked p reciprocal n m w l k e c f r-top u-top v-top r u v spare
+subtract-asked ready move g = record { ready = ready; c-below = g .c-below; f-below = negative-below g; move = rw (g .e-is) move }
 
 -- the heights of rows l and k, and the multiple that is taken away
 module _ (p reciprocal m w l k : ℕ) (r indices degrees : List ℕ) (asked : PlanAsked p reciprocal m w l k r indices degrees)
     (e c f : ℕ) (g : Factor p m w l k r indices degrees e c f) where
-  f-below : f < p
-  f-below = rw (g .f-is) (mod-lt (p - c) (omega (arith, g .c-below)))
-
   exponent : e + getD degrees k 0 ≡ getD degrees l 0
   exponent = omega (arith, g .e-is, asked .order)
 
@@ -28,7 +82,7 @@ module _ (p reciprocal m w l k : ℕ) (r indices degrees : List ℕ) (asked : Pl
   pub row-asked : Short w (getD degrees k 0) m (place m w k) r → {spare : List ℕ} → m * w ≤ length spare
       → RowsInBuffer p reciprocal f e m w (getD degrees k 0) l k r spare
   row-asked short room = record {
-    multiplier = record { ready = asked .ready; factor = f-below; room = omega (arith, exponent, l-most) };
+    multiplier = record { ready = asked .ready; factor = negative-below g; room = omega (arith, exponent, l-most) };
     l-fits = asked .l-pivot .leading .row;
     k-fits = asked .k-pivot .leading .row;
     residues = asked .residues;
@@ -36,47 +90,19 @@ module _ (p reciprocal m w l k : ℕ) (r indices degrees : List ℕ) (asked : Pl
     spare-room = room;
   }
 
-module _ (p reciprocal n m w l k reach : ℕ) (r u v spare indices degrees : List ℕ)
-    (asked : AdvanceAsked p reciprocal n m w l k reach r u v spare indices degrees)
-    (e c f : ℕ) (g : Factor p m w l k r indices degrees e c f) where
-  -- the spare row may have been written before
-  module _ (spare′ : List ℕ) (same : length spare′ ≡ length spare) where
-    pub u-asked : LinePair p reciprocal f e n (n * w) reach l k (place n (n * w) k) u spare′
-    u-asked = record {
-      multiplier = record { ready = asked .plan .ready; factor = f-below p reciprocal m w l k r indices degrees (asked .plan) e c f g; room = omega (arith, g .e-is, asked .u-room) };
-      size = asked .u-size;
-      x-fits = asked .l-fits;
-      y-fits = asked .k-fits;
-      differ = asked .differ;
-      residues = asked .u-residues;
-      short = asked .u-short;
-      spare-room = omega (arith, asked .cell-room, asked .u-room);
-    }
-
-    pub v-asked : LinePair p reciprocal c e n w (w + 1 - getD degrees l 0) k l (λ i. place n w i l) v spare′
-    v-asked = record {
-      multiplier = record { ready = asked .plan .ready; factor = g .c-below; room = omega (arith, exponent p reciprocal m w l k r indices degrees (asked .plan) e c f g, l-most p reciprocal m w l k r indices degrees (asked .plan) e c f g, asked .plan .k-pivot .leading .height) };
-      size = asked .v-size;
-      x-fits = asked .k-fits;
-      y-fits = asked .l-fits;
-      differ = λ q. asked .differ (sym q);
-      residues = asked .v-residues;
-      short = asked .v-short;
-      spare-room = omega (arith, asked .cell-room, one-line n w (omega (arith, asked .l-fits)), asked .plan .l-pivot .leading .height);
-    }
-
   -- after the subtraction row l has no coefficient from its old height on
   module _ (r′ : List ℕ) (added : RowAdded p m w f e l k r r′) where
-    pub renew-asked : RenewAsked m w l (getD degrees l 0) r′ indices degrees
-    renew-asked = record {
-      row = omega (arith, added .size, asked .plan .l-pivot .leading .row);
-      columns = asked .columns;
-      within = l-most p reciprocal m w l k r indices degrees (asked .plan) e c f g;
+    pub renew-asked : 0 < m → Short w (getD degrees l 0) m (place m w l) r → Short w (getD degrees k 0) m (place m w k) r
+        → RenewAsked m w l (getD degrees l 0) r′ indices degrees
+    renew-asked columns l-short k-short = record {
+      row = omega (arith, added .size, asked .l-pivot .leading .row);
+      columns = columns;
+      within = l-most;
       short = record {
         zero = λ j t lj from to.
-            added .sum j t lj to
-            ∙ simp (le-leb e t (omega (arith, exponent p reciprocal m w l k r indices degrees (asked .plan) e c f g)), asked .l-short .zero j t lj from to, asked .k-short .zero j (t - e) lj (omega (arith, exponent p reciprocal m w l k r indices degrees (asked .plan) e c f g)) (omega arith), mul-zero, zero-mod);
+            added .written j t lj to
+            ∙ simp (le-leb e t (omega (arith, exponent)), l-short .zero j t lj from to, k-short .zero j (t - e) lj (omega (arith, exponent)) (omega arith), mul-zero, zero-mod);
       };
-      index-room = asked .plan .l-pivot .index-room;
-      degree-room = asked .plan .l-pivot .degree-room;
+      index-room = asked .l-pivot .index-room;
+      degree-room = asked .l-pivot .degree-room;
     }

@@ -1,5 +1,6 @@
 pub mod Value
 pub mod Moving
+pub mod Short
 pub mod Quotient
 pub mod Following
 pub mod RowsOf

@@ -2,9 +2,9 @@
 use mathlib.Core.Path.{_≡_, sym, _∙_, ap, ap₂, subst}
 use mathlib.Core.Logic.{_≢_}
 use mathlib.Core.List.{List}
-use Prim.Native.Nat.{ℕ, _-_, _*_, _%_, _<_}
-use native.Mathlib.Omega.{arith}
+use Prim.Native.Nat.{ℕ, _+_, _-_, _*_, _<_}
 use native.Mathlib.Nat as N
+use native.Mathlib.Omega.{arith}
 use lib.ListN.{getD}
 use Rattle.algebra.specs.Field.{Field}
 use Rattle.algebra.specs.Prime.{Prime}
@@ -15,7 +15,8 @@ use Rattle.algebra.proofs.Ring as Ring
 use Rattle.algebra.proofs.PrimeField.{zp-field, field-mul}
 use Rattle.algebra.proofs.Residue.{zp-path}
 use Rattle.algebra.proofs.Series.{series}
-use Rattle.lattice.specs.Row.{Row}
+use Rattle.lattice.specs.Term.{up}
+use Rattle.lattice.specs.Row.{Row, coef}
 use Rattle.lattice.specs.PolynomialMatrix.{AllBounded}
 use Rattle.buffers.specs.Place.{place}
 use Rattle.buffers.specs.Held.{Held}
@@ -25,14 +26,14 @@ use Rattle.buffers.proofs.Held.{held-bounded}
 use Rattle.buffers.proofs.Added.{held-subtract, held-column}
 use Rattle.reduction.specs.Pivot.{value, values, pivot, index, height}
 use Rattle.reduction.specs.Pair.{Reducing}
-use Rattle.reduction.specs.Step.{Carried, leading, factor, subtract, reduce-row, advance}
-use Rattle.reduction.proofs.Index.{index-some, height-some, height-bound, clash-first, clash-second}
+use Rattle.reduction.specs.Step.{Carried, leading, factor, subtract, carry, reduce-row, advance}
+use Rattle.reduction.proofs.Index.{index-less, height-less, height-some, height-bound, clash-first, clash-second}
 use Rattle.reduction.proofs.Pivot.{value-bound, value-lead}
 use Rattle.reduction.proofs.Lowering.{Lowered, lowered}
 use Rattle.reduction.proofs.Degrees.{Narrow, narrow-step, u-fits, v-degrees}
-use Rattle.pivots.specs.Pivot.{valueOf, rowOf, Pivots}
+use Rattle.pivots.specs.Pivot.{valuesOf, Pivots}
 use Rattle.stepping.specs.Holding.{Holding}
-use Rattle.stepping.specs.Move.{leadingAt, Factor, Moved}
+use Rattle.stepping.specs.Move.{coefficientAt, leadingAt, Divided, Factor, Subtracted, FirstMove}
 use Rattle.stepping.proofs.Value.{value-held}
 
 -- the quotient is what gives the dividend
@@ -40,92 +41,110 @@ quotient-is : {F : Type 0} (K : Field F) (a b c : F) → b ≢ K .ring .𝟘 →
 quotient-is K a b c ne e =
     ap (λ x. K .ring .mul x (K .inv b)) (sym e) ∙ Ring.mul-assoc (K .ring) c b (K .inv b) ∙ ap (K .ring .mul c) (K .mul-inv b ne) ∙ Ring.mul-one (K .ring) c
 
-module _ (p : ℕ) (P : Prime p) (n m w : ℕ) (columns : 0 < m) where
+module _ (p : ℕ) (P : Prime p) where
   abbrev K : Field (Zp p)
   K = zp-field p P
 
-  -- rows l and k of a matrix that a buffer holds, with what the code has found out about them
-  module _ (r indices degrees : List ℕ) (M : ℕ → Row (Zp p)) (h : Held (by-rows n m w) p r M)
-      (pivots : Pivots n m (λ i. valueOf m w (rowOf m w r i)) indices degrees)
-      (l k : ℕ) (x : Reducing n m (values K m w M) l k) (e c f : ℕ) (g : Factor p m w l k r indices degrees e c f) where
-    bounded : AllBounded (K .ring) n m w M
-    bounded = held-bounded (by-rows n m w) p P h
-
-    pub lowering : Lowered K n m w M l k
-    lowering = lowered K n m w M l k bounded x
-
-    -- the pivot of a row that is not zero, as the lists have it
-    height-is : (i : ℕ) → i < n → getD degrees i 0 ≡ height m (value K m w (M i))
-    height-is i li = pivots .row i li .degree-is ∙ ap (height m) (sym (value-held p P n m w h columns i li))
-
-    index-is : (i : ℕ) → i < n → getD indices i 0 ≡ index m (value K m w (M i))
-    index-is i li = pivots .row i li .index-is ∙ ap (index m) (sym (value-held p P n m w h columns i li))
-
-    leading-is : (i : ℕ) → i < n → 0 < value K m w (M i) → leading K m w (M i) .val ≡ leadingAt m w r indices degrees i
-    leading-is i li some =
-        let v = value K m w (M i) in
-        let col : getD indices i 0 - 1 ≡ pivot m v .col = omega (arith, index-is i li, index-some m v some) in
-        let deg : getD degrees i 0 - 1 ≡ pivot m v .deg = omega (arith, height-is i li, height-some m v some) in
-        let fits : pivot m v .deg < w = omega (arith, height-some m v some, height-bound m w v (value-bound K m w (M i) (bounded i li))) in
-        sym (h .at i _ _ li (value-lead K m w (M i) (bounded i li) some .inside) fits)
-        ∙ sym (ap₂ (λ (a b : ℕ). getD r (place m w i a b) 0) col deg)
+  -- q is x^d times the quotient of two residues a and b, which has been worked out by their numbers
+  module _ (a b : Zp p) (nonzero : b ≢ K .ring .𝟘) {d e c f : ℕ} (g : Divided p (a .val) (b .val) d e c f) where
+    abbrev q : ℕ → Zp p
+    q = mono (K .ring) (K .ring .mul a (K .inv b)) d
 
     c₀ : Zp p
     c₀ = record { val = c; lt = g .c-below }
 
-    c-is : K .ring .mul (leading K m w (M l)) (K .inv (leading K m w (M k))) ≡ c₀
+    q-is : q ≡ mono (K .ring) c₀ e
     unfolding c₀
-    c-is = quotient-is K _ _ c₀ (value-lead K m w (M k) (bounded k (x .k-fits)) (clash-second (x .clash)) .top)
-        (zp-path _ _ (field-mul p P c₀ _
-        ∙ ap (λ (y : ℕ). c * y % p) (leading-is k (x .k-fits) (clash-second (x .clash)))
-        ∙ g .c-is
-        ∙ sym (leading-is l (x .l-fits) (clash-first (x .clash)))))
+    q-is = ap₂ (mono (K .ring)) (quotient-is K a b c₀ nonzero (zp-path _ _ (field-mul p P c₀ b ∙ g .c-is))) (sym (g .e-is))
 
-    e-is : height m (value K m w (M l)) - height m (value K m w (M k)) ≡ e
-    e-is = sym (g .e-is ∙ ap₂ (λ (a b : ℕ). a - b) (height-is l (x .l-fits)) (height-is k (x .k-fits)))
-
-    factor-is : factor K m w (M l) (M k) ≡ mono (K .ring) c₀ e
-    unfolding factor
-    factor-is = ap₂ (mono (K .ring)) c-is e-is
-
-    -- the rows of R or U take -c x^e times row k, where nothing falls outside
-    row-moved : (b w′ : ℕ) {l₁ l₂ : List ℕ} {N : ℕ → Row (Zp p)} → Held (by-rows n b w′) p l₁ N → RowAdded p b w′ f e l k l₁ l₂
-        → AllBounded (K .ring) n b w′ (subtract (K .ring) l k (factor K m w (M l) (M k)) N)
-        → Held (by-rows n b w′) p l₂ (subtract (K .ring) l k (factor K m w (M l) (M k)) N)
+    -- q times row k is taken from row l of R or U, where nothing falls outside
+    pub row-moved : (n m w l k : ℕ) → l < n → k < n → {s s′ : List ℕ} {M : ℕ → Row (Zp p)} → Held (by-rows n m w) p s M → RowAdded p m w f e l k s s′
+        → AllBounded (K .ring) n m w (subtract (K .ring) l k q M) → Held (by-rows n m w) p s′ (subtract (K .ring) l k q M)
     unfolding c₀
-    row-moved b w′ {l₁} {l₂} {N} held added fits =
-        subst (λ q. Held (by-rows n b w′) p l₂ (subtract (K .ring) l k q N)) (sym factor-is)
-        (held-subtract p P n b w′ c₀ f e l k (g .f-is) (x .k-fits) held added
-        (subst (λ q. AllBounded (K .ring) n b w′ (subtract (K .ring) l k q N)) factor-is fits))
+    row-moved n m w l k ll lk {s′ = s′} {M = M} held added fits =
+        subst (λ q. Held (by-rows n m w) p s′ (subtract (K .ring) l k q M)) (sym q-is)
+        (held-subtract p P n m w c₀ f e l k (g .f-is) ll lk held added (subst (λ q. AllBounded (K .ring) n m w (subtract (K .ring) l k q M)) q-is fits))
 
-    pub step-held : {r′ : List ℕ} → RowAdded p m w f e l k r r′ → Held (by-rows n m w) p r′ (reduce-row K m w l k M)
-    step-held added = row-moved m w h added (lowering .bounded)
-
-    column-moved : {l₁ l₂ : List ℕ} {N : ℕ → Row (Zp p)} → Held (by-rows n n w) p l₁ N → ColumnAdded p n w c e k l l₁ l₂
-        → AllBounded (K .ring) n n w (transpose (addrow (series (K .ring)) (transpose N) k l (factor K m w (M l) (M k))))
-        → Held (by-rows n n w) p l₂ (transpose (addrow (series (K .ring)) (transpose N) k l (factor K m w (M l) (M k))))
+    -- and q times column l is added to column k of V
+    column-moved : (n w l k : ℕ) → l < n → k < n → {s s′ : List ℕ} {M : ℕ → Row (Zp p)} → Held (by-rows n n w) p s M → ColumnAdded p n w c e k l s s′
+        → AllBounded (K .ring) n n w (transpose (addrow (series (K .ring)) (transpose M) k l q))
+        → Held (by-rows n n w) p s′ (transpose (addrow (series (K .ring)) (transpose M) k l q))
     unfolding c₀
-    column-moved {l₁} {l₂} {N} held added fits =
-        subst (λ q. Held (by-rows n n w) p l₂ (transpose (addrow (series (K .ring)) (transpose N) k l q))) (sym factor-is)
-        (held-column p P n w c₀ e k l (x .k-fits) (x .l-fits) held added
-        (subst (λ q. AllBounded (K .ring) n n w (transpose (addrow (series (K .ring)) (transpose N) k l q))) factor-is fits))
+    column-moved n w l k ll lk {s′ = s′} {M = M} held added fits =
+        subst (λ q. Held (by-rows n n w) p s′ (transpose (addrow (series (K .ring)) (transpose M) k l q))) (sym q-is)
+        (held-column p P n w c₀ e k l lk ll held added
+        (subst (λ q. AllBounded (K .ring) n n w (transpose (addrow (series (K .ring)) (transpose M) k l q))) q-is fits))
 
-  -- with the transforms
-  module _ (A : ℕ → Row (Zp p)) (ab : AllBounded (K .ring) n m w A) (places : 0 < w)
-      (r u v indices degrees r′ u′ v′ : List ℕ) (t : Carried (Zp p)) (h : Holding p n m w r u v t) (narrow : Narrow K n m w A t)
-      (pivots : Pivots n m (λ i. valueOf m w (rowOf m w r i)) indices degrees)
-      (l k : ℕ) (x : Reducing n m (values K m w (t .R)) l k) (d : Moved p n m w l k r u v indices degrees r′ u′ v′) where
-    pub move-lowers : Lowered K n m w (t .R) l k
-    move-lowers = lowering r indices degrees (t .R) (h .R) pivots l k x (d .e) (d .c) (d .f) (d .factor)
-
-    pub move-narrow : Narrow K n m w A (advance K m w l k t)
-    move-narrow = narrow-step K n m w A t l k (held-bounded (by-rows n m w) p P (h .R)) move-lowers narrow
-
-    pub move-holding : Holding p n m w r′ u′ v′ (advance K m w l k t)
-    move-holding = record {
-      R = step-held r indices degrees (t .R) (h .R) pivots l k x (d .e) (d .c) (d .f) (d .factor) (d .r-move);
-      U = row-moved r indices degrees (t .R) (h .R) pivots l k x (d .e) (d .c) (d .f) (d .factor) n (n * w) (h .U) (d .u-move)
-          (λ i li j lj. u-fits K n m w A _ ab move-narrow places i j li lj);
-      V′ = column-moved r indices degrees (t .R) (h .R) pivots l k x (d .e) (d .c) (d .f) (d .factor) (h .V′) (d .v-move)
-          (λ i li j lj. v-degrees K n m w A _ ab move-narrow places i j li lj);
+    -- what the buffers hold after both
+    pub subtracted-holding : (n m w l k : ℕ) → l < n → k < n → {r u v r′ u′ v′ : List ℕ} {t : Carried (Zp p)} → Holding p n m w r u v t
+        → Subtracted p n m w l k e c f r u v r′ u′ v′ → let t′ = carry (K .ring) l k q t in
+        AllBounded (K .ring) n m w (t′ .R) → AllBounded (K .ring) n n (n * w) (t′ .U) → AllBounded (K .ring) n n w (t′ .V′) → Holding p n m w r′ u′ v′ t′
+    subtracted-holding n m w l k ll lk h s r-fits u-fits v-fits = record {
+      R = row-moved n m w l k ll lk (h .R) (s .r-move) r-fits;
+      U = row-moved n n (n * w) l k ll lk (h .U) (s .u-move) u-fits;
+      V′ = column-moved n w l k ll lk (h .V′) (s .v-move) v-fits;
     }
+
+  module _ (n m w : ℕ) (columns : 0 < m) where
+    -- a matrix that a buffer holds, with the pivots of its rows
+    module _ (r indices degrees : List ℕ) (M : ℕ → Row (Zp p)) (h : Held (by-rows n m w) p r M) (pivots : Pivots n m (valuesOf m w r) indices degrees) where
+      bounded : AllBounded (K .ring) n m w M
+      bounded = held-bounded (by-rows n m w) p P h
+
+      pub height-is : (i : ℕ) → i < n → getD degrees i 0 ≡ height m (value K m w (M i))
+      height-is i li = pivots .row i li .degree-is ∙ ap (height m) (sym (value-held p P n m w h columns i li))
+
+      pub column-is : (i : ℕ) → i < n → getD indices i 0 - 1 ≡ pivot m (value K m w (M i)) .col
+      column-is i li =
+          ap (λ (x : ℕ). x - 1) (pivots .row i li .index-is ∙ ap (index m) (sym (value-held p P n m w h columns i li))) ∙ index-less m (value K m w (M i))
+
+      pub degree-is : (i : ℕ) → i < n → getD degrees i 0 - 1 ≡ pivot m (value K m w (M i)) .deg
+      degree-is i li = ap (λ (x : ℕ). x - 1) (height-is i li) ∙ height-less m (value K m w (M i))
+
+      -- the coefficient of row k at x^e times the leading term of row i, which is not zero
+      pub coefficient-is : (k i e : ℕ) → k < n → i < n → 0 < value K m w (M i) → e + pivot m (value K m w (M i)) .deg < w
+          → coef (M k) (up e (pivot m (value K m w (M i)))) .val ≡ coefficientAt m w r k (getD indices i 0) (getD degrees i 0 + e)
+      coefficient-is k i e lk li some fits =
+          let degree : getD degrees i 0 + e - 1 ≡ e + pivot m (value K m w (M i)) .deg = omega (arith, height-is i li, height-some m _ some) in
+          sym (h .at k _ _ lk (N.mod-lt _ columns) fits) ∙ sym (ap₂ (λ (x y : ℕ). getD r (place m w k x y) 0) (column-is i li) degree)
+
+      pub leading-is : (i : ℕ) → i < n → 0 < value K m w (M i) → leading K m w (M i) .val ≡ leadingAt m w r indices degrees i
+      leading-is i li some =
+          let v = value K m w (M i) in
+          let bound = height-bound m w v (value-bound K m w (M i) (bounded i li)) in
+          rw (N.zero-add, N.add-zero) at (coefficient-is i i 0 li li some (omega (arith, height-some m v some)))
+
+      -- a step of the first kind on rows l and k
+      module _ (l k : ℕ) (x : Reducing n m (values K m w M) l k) where
+        pub lowering : Lowered K n m w M l k
+        lowering = lowered K n m w M l k bounded x
+
+        k-nonzero : leading K m w (M k) ≢ K .ring .𝟘
+        k-nonzero = value-lead K m w (M k) (bounded k (x .k-fits)) (clash-second (x .clash)) .top
+
+        factor-is : {e c f : ℕ} → Factor p m w l k r indices degrees e c f
+            → Divided p (leading K m w (M l) .val) (leading K m w (M k) .val) (height m (value K m w (M l)) - height m (value K m w (M k))) e c f
+        factor-is g = rw (leading-is l (x .l-fits) (clash-first (x .clash)), leading-is k (x .k-fits) (clash-second (x .clash)), ← height-is l (x .l-fits), ← height-is k (x .k-fits)) g
+
+        pub step-held : {e c f : ℕ} → Factor p m w l k r indices degrees e c f → {r′ : List ℕ} → RowAdded p m w f e l k r r′
+            → Held (by-rows n m w) p r′ (reduce-row K m w l k M)
+        unfolding factor
+        step-held g added = row-moved _ _ k-nonzero (factor-is g) n m w l k (x .l-fits) (x .k-fits) h added (lowering .bounded)
+
+    -- with the transforms
+    module _ (A : ℕ → Row (Zp p)) (ab : AllBounded (K .ring) n m w A) (places : 0 < w)
+        (r u v indices degrees r′ u′ v′ : List ℕ) (t : Carried (Zp p)) (h : Holding p n m w r u v t) (narrow : Narrow K n m w A t)
+        (pivots : Pivots n m (valuesOf m w r) indices degrees)
+        (l k : ℕ) (x : Reducing n m (values K m w (t .R)) l k) (d : FirstMove p n m w l k r u v indices degrees r′ u′ v′) where
+      pub move-lowers : Lowered K n m w (t .R) l k
+      move-lowers = lowering r indices degrees (t .R) (h .R) pivots l k x
+
+      pub move-narrow : Narrow K n m w A (advance K m w l k t)
+      move-narrow = narrow-step K n m w A t l k (held-bounded (by-rows n m w) p P (h .R)) move-lowers narrow
+
+      pub move-holding : Holding p n m w r′ u′ v′ (advance K m w l k t)
+      unfolding factor
+      move-holding =
+          subtracted-holding _ _ (k-nonzero r indices degrees (t .R) (h .R) pivots l k x) (factor-is r indices degrees (t .R) (h .R) pivots l k x (d .divided))
+          n m w l k (x .l-fits) (x .k-fits) h (d .subtracted) (move-lowers .bounded)
+          (λ i li j lj. u-fits K n m w A _ ab move-narrow places i j li lj) (λ i li j lj. v-degrees K n m w A _ ab move-narrow places i j li lj)

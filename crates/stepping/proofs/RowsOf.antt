@@ -16,20 +16,20 @@ use Rattle.lists.proofs.Last.{last-is}
 use Rattle.lists.proofs.Part.{length-part, getD-part}
 use Rattle.buffers.specs.Place.{place}
 use Rattle.buffers.specs.Added.{RowAdded}
+use Rattle.buffers.proofs.Place.{block-own}
 use Rattle.rows.specs.Asked.{Short}
 use Rattle.reduction.specs.Pivot.{pivot, index, height}
 use Rattle.reduction.specs.Pair.{Reducing}
 use Rattle.reduction.proofs.Index.{index-some, height-some, height-bound, clash-first, clash-second}
-use Rattle.pivots.specs.Pivot.{valueOf, rowOf, IsPivotOf, Pivots}
+use Rattle.pivots.specs.Pivot.{valueOf, rowOf, valuesOf, IsPivotOf, Pivots}
 use Rattle.lists.proofs.Grid.{line-end, within}
 use Rattle.pivots.proofs.Search.{past-height}
 use Rattle.stepping.specs.Move.{leadingAt}
-use Rattle.stepping.specs.Asked.{LeadingAsked, PivotAsked, PlanAsked, Renewed}
-use Rattle.pivots.specs.Pivot.{valuesOf}
+use Rattle.stepping.specs.Asked.{CoefficientAsked, PivotAsked, PlanAsked, Renewed}
 use Rattle.stepping.proofs.Value.{values-most}
 
 module _ (n m w : ℕ) (columns : 0 < m) (r : List ℕ) (size : length r ≡ n * (m * w)) where
-  row-fits : (i : ℕ) → i < n → i * (m * w) + m * w ≤ length r
+  pub row-fits : (i : ℕ) → i < n → i * (m * w) + m * w ≤ length r
   row-fits i li = omega (arith, line-end i n (m * w) li)
 
   row-at : (i j t : ℕ) → i < n → j < m → t < w → getD (rowOf m w r i) (j * w + t) 0 ≡ getD r (place m w i j t) 0
@@ -72,7 +72,7 @@ module _ (n m w : ℕ) (columns : 0 < m) (r : List ℕ) (size : length r ≡ n *
       unfolding v
       degree-fits = N.div-lt-iff-lt-mul columns .1 (omega (arith, values-most m w r i))
 
-      pub leading-asked : LeadingAsked m w i (getD indices i 0) (getD degrees i 0) r
+      pub leading-asked : CoefficientAsked m w i (getD indices i 0) (getD degrees i 0) r
       leading-asked = record {
         row = row-fits i li;
         column = omega (arith, column-is);
@@ -90,7 +90,7 @@ module _ (n m w : ℕ) (columns : 0 < m) (r : List ℕ) (size : length r ≡ n *
           last-is (w * m) (λ x. getD (rowOf m w r i) (x % m * w + x / m) 0) .top some
           (row-at i (pivot m v .col) (pivot m v .deg) li column-fits degree-fits ∙ sym (ap₂ (λ (x y : ℕ). getD r (place m w i x y) 0) col deg) ∙ z)
 
-      pivot-asked : n ≤ length indices → n ≤ length degrees → PivotAsked m w i r indices degrees
+      pub pivot-asked : n ≤ length indices → n ≤ length degrees → PivotAsked m w i r indices degrees
       pivot-asked x y = record { index-room = omega arith; degree-room = omega arith; leading = leading-asked; nonzero = N.pos-of-ne-zero lead }
 
     -- what the places of a row have above its height, as the lists have it
@@ -109,13 +109,6 @@ module _ (n m w : ℕ) (columns : 0 < m) (r : List ℕ) (size : length r ≡ n *
       order = omega (arith, pivots .row l (reducing .l-fits) .degree-is, pivots .row k (reducing .k-fits) .degree-is, reducing .degrees);
     }
 
--- a place tells its row
-row-own : (s i l x y : ℕ) → x < s → y < s → i * s + x ≡ l * s + y → i ≡ l
-row-own s i l x y lx ly q = sym (quotient i x lx) ∙ ap (λ (z : ℕ). z / s) q ∙ quotient l y ly
-  where
-    quotient : (a b : ℕ) → b < s → (a * s + b) / s ≡ a
-    quotient a b lb = N.mul-add-div-right (omega arith) a b ∙ ap (λ (z : ℕ). a + z) (N.div-eq-of-lt lb) ∙ N.add-zero a
-
 -- a step changes row l alone, and of the pivots that of row l
 module _ (p n m w f e l k : ℕ) (r r′ : List ℕ) (size : length r ≡ n * (m * w)) (ll : l < n) (added : RowAdded p m w f e l k r r′) where
   pub size-after : length r′ ≡ n * (m * w)
@@ -133,7 +126,7 @@ module _ (p n m w f e l k : ℕ) (r r′ : List ℕ) (size : length r ≡ n * (m
     where
       -- a place of row i is none of row l
       apart : (x : ℕ) → x < m * w → (j t : ℕ) → j < m → t < w → i * (m * w) + x ≡ place m w l j t → i ≡ l
-      apart x inside j t lj lt same = row-own (m * w) i l x (j * w + t) inside (within j t m w lj lt) same
+      apart x inside j t lj lt same = block-own (m * w) i x l (j * w + t) inside (within j t m w lj lt) same .0
 
   pub pivots-after : (indices degrees indices′ degrees′ : List ℕ) → n ≤ length indices → n ≤ length degrees → Pivots n m (valuesOf m w r) indices degrees
       → Renewed m w l r′ indices degrees indices′ degrees′ → Pivots n m (valuesOf m w r′) indices′ degrees′

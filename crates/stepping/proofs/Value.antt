@@ -27,7 +27,7 @@ module _ (p : ℕ) (P : Prime p) where
   K = zp-field p P
 
   -- the last residue that is not zero is the last number that is not
-  top-last : (n : ℕ) (f : ℕ → Zp p) (g : ℕ → ℕ) → ((x : ℕ) → x < n → g x ≡ f x .val) → top K n f ≡ lastNonzero n g
+  pub top-last : (n : ℕ) (f : ℕ → Zp p) (g : ℕ → ℕ) → ((x : ℕ) → x < n → g x ≡ f x .val) → top K n f ≡ lastNonzero n g
   unfolding top
   top-last zero f g h = sym (last-nil g)
   top-last (suc n) f g h = go (K .dec (f n) (K .ring .𝟘)) (top-last n f g (λ x l. h x (omega arith)))

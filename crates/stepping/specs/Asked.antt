@@ -2,7 +2,7 @@
 use mathlib.Core.Path.{_≡_}
 use mathlib.Core.Logic.{_≢_}
 use mathlib.Core.List.{List}
-use Prim.Native.Nat.{ℕ, _+_, _*_, _-_, _%_, _≤_, _<_}
+use Prim.Native.Nat.{ℕ, _+_, _*_, _-_, _≤_, _<_}
 use lib.ListN.{length, getD, set}
 use Rattle.algebra.specs.Prime.{Prime}
 use Rattle.poly.specs.Modulus.{Ready}
@@ -11,10 +11,10 @@ use Rattle.buffers.specs.Place.{place}
 use Rattle.rows.specs.Asked.{Short}
 use Rattle.reduction.specs.Pivot.{index, height}
 use Rattle.pivots.specs.Pivot.{valueOf, rowOf}
-use Rattle.stepping.specs.Move.{leadingAt, Moved}
+use Rattle.stepping.specs.Move.{leadingAt, FirstMove}
 
 -- row i lies in r, and x and h are a column and a height
-pub record LeadingAsked (m w i x h : ℕ) (r : List ℕ) : Type 0 where
+pub record CoefficientAsked (m w i x h : ℕ) (r : List ℕ) : Type 0 where
   pub row : i * (m * w) + m * w ≤ length r
   pub column : 0 < x
   pub column-most : x ≤ m
@@ -29,18 +29,11 @@ pub record DivideAsked (p reciprocal a b : ℕ) : Type 0 where
   pub divisor : b < p
   pub nonzero : 0 < b
 
--- c is a divided by b, f is -c, and e is as it was
-pub record Divided (p a b e e′ c f : ℕ) : Type 0 where
-  pub e-is : e′ ≡ e
-  pub c-below : c < p
-  pub c-is : c * b % p ≡ a
-  pub f-is : f ≡ (p - c) % p
-
 -- row i is not zero: its pivot stands in the lists, and its leading coefficient is not 0
 pub record PivotAsked (m w i : ℕ) (r indices degrees : List ℕ) : Type 0 where
   pub index-room : i < length indices
   pub degree-room : i < length degrees
-  pub leading : LeadingAsked m w i (getD indices i 0) (getD degrees i 0) r
+  pub leading : CoefficientAsked m w i (getD indices i 0) (getD degrees i 0) r
   pub nonzero : 0 < leadingAt m w r indices degrees i
 
 -- two such rows, of which l is the higher
@@ -51,6 +44,38 @@ pub record PlanAsked (p reciprocal m w l k : ℕ) (r indices degrees : List ℕ)
   pub l-pivot : PivotAsked m w l r indices degrees
   pub k-pivot : PivotAsked m w k r indices degrees
   pub order : getD degrees k 0 ≤ getD degrees l 0
+
+-- R, U and V in buffers, of which a cell of U has n·(d+1) places
+pub record Matrices (p n m w : ℕ) (r u v : List ℕ) : Type 0 where
+  pub r-size : length r ≡ n * (m * w)
+  pub u-size : length u ≡ n * (n * (n * w))
+  pub v-size : length v ≡ n * (n * w)
+  pub r-residues : Coefficients p r
+  pub u-residues : Coefficients p u
+  pub v-residues : Coefficients p v
+
+-- rows l and k of R and U and columns l and k of V, such that x^e times row k fits R and U, and x^e times column l fits V:
+-- of a cell of row k of R the lowest r-top places can be other than zero, of one of row k of U u-top, and of one of column l of V v-top
+pub record MoveAsked (p n m w l k e r-top u-top v-top : ℕ) (r u v spare : List ℕ) : Type 0 where
+  pub matrices : Matrices p n m w r u v
+  pub l-fits : l < n
+  pub k-fits : k < n
+  pub differ : l ≢ k
+  pub r-short : Short w r-top m (place m w k) r
+  pub u-short : Short (n * w) u-top n (place n (n * w) k) u
+  pub v-short : Short w v-top n (λ i. place n w i l) v
+  pub r-room : e + r-top ≤ w
+  pub u-room : e + u-top ≤ n * w
+  pub v-room : e + v-top ≤ w
+  pub row-room : m * w ≤ length spare
+  pub cell-room : n * w ≤ length spare
+
+-- such rows and columns, and two residues
+pub record SubtractAsked (p reciprocal n m w l k e c f r-top u-top v-top : ℕ) (r u v spare : List ℕ) : Type 0 where
+  pub ready : Ready p reciprocal
+  pub c-below : c < p
+  pub f-below : f < p
+  pub move : MoveAsked p n m w l k e r-top u-top v-top r u v spare
 
 -- row l has no coefficient from degree top on
 pub record RenewAsked (m w l top : ℕ) (r indices degrees : List ℕ) : Type 0 where
@@ -70,22 +95,10 @@ pub record Renewed (m w l : ℕ) (r indices degrees indices′ degrees′ : List
 pub record AdvanceAsked (p reciprocal n m w l k reach : ℕ) (r u v spare indices degrees : List ℕ) : Type 0 where
   pub plan : PlanAsked p reciprocal m w l k r indices degrees
   pub columns : 0 < m
-  pub l-fits : l < n
-  pub k-fits : k < n
-  pub differ : l ≢ k
-  pub u-size : length u ≡ n * (n * (n * w))
-  pub v-size : length v ≡ n * (n * w)
-  pub u-residues : Coefficients p u
-  pub v-residues : Coefficients p v
   pub l-short : Short w (getD degrees l 0) m (place m w l) r
-  pub k-short : Short w (getD degrees k 0) m (place m w k) r
-  pub u-short : Short (n * w) reach n (place n (n * w) k) u
-  pub u-room : getD degrees l 0 - getD degrees k 0 + reach ≤ n * w
-  pub v-short : Short w (w + 1 - getD degrees l 0) n (λ i. place n w i l) v
-  pub row-room : m * w ≤ length spare
-  pub cell-room : n * w ≤ length spare
+  pub move : MoveAsked p n m w l k (getD degrees l 0 - getD degrees k 0) (getD degrees k 0) reach (w + 1 - getD degrees l 0) r u v spare
 
 -- the step is made, and the pivots are those of the new rows
 pub record Advanced (p n m w l k : ℕ) (r u v indices degrees r′ u′ v′ indices′ degrees′ : List ℕ) : Type 0 where
-  pub moved : Moved p n m w l k r u v indices degrees r′ u′ v′
+  pub moved : FirstMove p n m w l k r u v indices degrees r′ u′ v′
   pub renewed : Renewed m w l r′ indices degrees indices′ degrees′

@@ -1,10 +1,7 @@
-// One step on the buffers: what is taken from row l, and how R, U, V and the pivots follow.
+// A subtraction of rows on the buffers, which R, U and V follow, and the step of the first kind, which the pivots follow too.
 ghost use mathlib.Core.Path.{_≡_};
-ghost use Prim.Native.Nat.{_-_};
-ghost use lib.ListN.{getD};
-ghost use Rattle.buffers.specs.Place.{place};
-ghost use Rattle.stepping.specs.Asked.{LeadingAsked, DivideAsked, Divided, PlanAsked, RenewAsked, Renewed, AdvanceAsked, Advanced};
-ghost use Rattle.stepping.specs.Move.{Factor};
+ghost use Rattle.stepping.specs.Asked.{CoefficientAsked, DivideAsked, PlanAsked, SubtractAsked, RenewAsked, Renewed, AdvanceAsked, Advanced};
+ghost use Rattle.stepping.specs.Move.{coefficientAt, Divided, Factor, Subtracted};
 use pivots::Pivot;
 use pivots::PivotDegree;
 use pivots::PivotIndex;
@@ -18,10 +15,24 @@ pub struct Move {
     pub f: Residue,
 }
 
-// The leading coefficient of the pivot of row i.
-fn leading(r: &[u16], i: usize, x: PivotIndex, h: PivotDegree, m: usize, w: usize) -> Residue
-    requires { ⌜ LeadingAsked m w i (x .0) (h .0) (now r) ⌝ }
-    ensures { λ c. ⌜ c .0 ≡ getD (now (r .entry)) (place m w i (x .0 - 1) (h .0 - 1)) 0 ⌝ }
+// How many of the lowest places of a cell can be other than zero, in row k of R, in row k of U and in column l of V: only these are read.
+pub struct Ranges {
+    pub r: usize,
+    pub u: usize,
+    pub v: usize,
+}
+
+// The coefficient of row i in the column and of the degree of a pivot.
+pub fn coefficient(
+    r: &[u16],
+    i: usize,
+    x: PivotIndex,
+    h: PivotDegree,
+    m: usize,
+    w: usize,
+) -> Residue
+    requires { ⌜ CoefficientAsked m w i (x .0) (h .0) (now r) ⌝ }
+    ensures { λ c. ⌜ c .0 ≡ coefficientAt m w (now (r .entry)) i (x .0) (h .0) ⌝ }
 {
     let s = m * w;
     let j = x.0 - 1;
@@ -30,7 +41,7 @@ fn leading(r: &[u16], i: usize, x: PivotIndex, h: PivotDegree, m: usize, w: usiz
 }
 
 // c is a divided by b.
-fn divide(a: Residue, b: Residue, e: usize, md: Modulus) -> Move
+pub fn divide(a: Residue, b: Residue, e: usize, md: Modulus) -> Move
     requires { ⌜ DivideAsked (md .p) (md .reciprocal) (a .0) (b .0) ⌝ }
     ensures { λ x. ⌜ Divided (md .p) (a .0) (b .0) e (x .e) (x .c .0) (x .f .0) ⌝ }
 {
@@ -55,9 +66,32 @@ pub fn plan(
 {
     let high = degree[l];
     let low = degree[k];
-    let a = leading(r, l, PivotIndex(index[l]), PivotDegree(high), m, w);
-    let b = leading(r, k, PivotIndex(index[k]), PivotDegree(low), m, w);
+    let a = coefficient(r, l, PivotIndex(index[l]), PivotDegree(high), m, w);
+    let b = coefficient(r, k, PivotIndex(index[k]), PivotDegree(low), m, w);
     divide(a, b, high - low, md)
+}
+
+// c·x^e times row k is taken from row l of R and of U, and c·x^e times column l is added to column k of V.
+pub fn subtract(
+    r: &mut [u16],
+    u: &mut [u16],
+    v: &mut [u16],
+    spare: &mut [u16],
+    l: usize,
+    k: usize,
+    x: Move,
+    top: Ranges,
+    n: usize,
+    m: usize,
+    w: usize,
+    md: Modulus,
+)
+    requires { ⌜ SubtractAsked (md .p) (md .reciprocal) n m w l k (x .e) (x .c .0) (x .f .0) (top .r) (top .u) (top .v) (now r) (now u) (now v) (now spare) ⌝ }
+    ensures { λ _. ⌜ Subtracted (md .p) n m w l k (x .e) (x .c .0) (x .f .0) (now (r .entry)) (now (u .entry)) (now (v .entry)) (now (r .exit)) (now (u .exit)) (now (v .exit)) ⌝ }
+{
+    rows::add_row(r, spare, l, k, m, w, top.r, x.f, x.e, md);
+    rows::add_row_by_cells(u, spare, n, n * w, l, k, top.u, x.f, x.e, md);
+    rows::add_column(v, spare, n, w, k, l, top.v, x.c, x.e, md);
 }
 
 // The pivot of row l anew: it was of degree top - 1 at most.
@@ -103,9 +137,11 @@ pub fn advance(
 {
     let x = plan(r, index, degree, l, k, m, w, md);
     let high = degree[l];
-    let low = degree[k];
-    rows::add_row(r, spare, l, k, m, w, low, x.f, x.e, md);
-    rows::add_row_by_cells(u, spare, n, n * w, l, k, reach, x.f, x.e, md);
-    rows::add_column(v, spare, n, w, k, l, w + 1 - high, x.c, x.e, md);
+    let top = Ranges {
+        r: degree[k],
+        u: reach,
+        v: w + 1 - high,
+    };
+    subtract(r, u, v, spare, l, k, x, top, n, m, w, md);
     renew(r, index, degree, l, high, m, w);
 }

@@ -1,6 +1,6 @@
 use borrow.Author.Needs.{needs}
 use native.Mathlib.Omega.{arith}
-use mathlib.Core.Path.{_≡_}
+use mathlib.Core.Path.{_≡_, subst}
 use mathlib.Core.List.{List}
 use Prim.Native.Nat.{ℕ, _*_}
 use Rattle.buffers.specs.Place.{place}
@@ -8,8 +8,7 @@ use Rattle.buffers.specs.Added.{CellsAdded, ColumnAdded}
 use Rattle.lists.proofs.Grid.{line-end}
 use Rattle.buffers.proofs.Place.{place-own}
 use Rattle.rows.specs.Asked.{spaced, LinePair, CellPairs}
-use Rattle.rows.proofs.Cells.{places-same}
-use Rattle.rows.proofs.Lines.{line-ends, line-cells}
+use Rattle.rows.proofs.Lines.{columns-spaced, line-ends, line-cells}
 use Rattle.rows.proofs.add_column.Statement.{statement}
 use Rattle.rows.proofs.add_column.Tie as tie
 
@@ -24,7 +23,7 @@ module _ (p reciprocal c e n w top x y : ℕ) (b spare : List ℕ) (pre : LinePa
       (λ i j t u li lj lt lu same. pre .differ (place-own n w i x t j y u (pre .x-fits) lt (pre .y-fits) lu (same-place i j t u same) .1 .0))
 
   added : (b′ : List ℕ) → CellsAdded p c e w n (spaced (x * w) (n * w)) (spaced (y * w) (n * w)) b b b′ → ColumnAdded p n w c e x y b b′
-  added b′ = places-same (λ i t. omega arith) (λ i t. omega arith)
+  added b′ = subst (λ spot. CellsAdded p c e w n (spot x) (spot y) b b b′) (columns-spaced n w)
 
 mul-size : tie.Need-mul-size
 mul-size c = omega (arith, line-ends (c .before .before .pre))

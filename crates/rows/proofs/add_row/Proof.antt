@@ -1,18 +1,21 @@
 use borrow.Author.Needs.{needs}
 use native.Mathlib.Omega.{arith}
-use mathlib.Core.Path.{_≡_, sym, _∙_}
+use mathlib.Core.Path.{_≡_, sym, ap₂, _∙_}
 use mathlib.Core.List.{List, _++_}
-use Prim.Native.Nat.{ℕ, _+_, _*_, _-_, _<_}
+use Prim.Native.Nat.{ℕ, _+_, _*_, _-_, _%_, _<_}
 use native.Mathlib.Nat.{add-sub-cancel-left}
+use lib.Dec.{leb}
 use lib.ListN.{getD, take, drop}
 use lib.Seq.{length-take-le}
 use Rattle.lists.specs.Part.{part}
 use Rattle.lists.proofs.Part.{length-part, getD-part}
 use Rattle.buffers.specs.Place.{inRow, place}
+use Rattle.buffers.specs.Where.{whereTrue}
 use Rattle.buffers.specs.Added.{CellsAdded, RowAdded}
 use Rattle.lists.proofs.Grid.{within}
 use Rattle.rows.specs.Asked.{RowPair, RowsInBuffer}
-use Rattle.rows.proofs.Cells.{part-residues, part-added, source-moved}
+use Rattle.rows.proofs.Written.{written-as, part-written}
+use Rattle.rows.proofs.Cells.{part-residues}
 use Rattle.rows.proofs.add_row.Statement.{statement}
 use Rattle.rows.proofs.add_row.Tie as tie
 
@@ -34,8 +37,10 @@ module _ (p reciprocal c e m w top l k : ℕ) (b spare room : List ℕ) (pre : R
 
   back : (new : List ℕ) → CellsAdded p c e w m (inRow w) (inRow w) (take (m * w) room) (take (l * (m * w) + m * w - l * (m * w)) (drop (l * (m * w)) b)) new
       → RowAdded p m w c e l k b (take (l * (m * w)) b ++ (new ++ drop (l * (m * w) + m * w - l * (m * w)) (drop (l * (m * w)) b)))
-  back new d = rw (add-sub-cancel-left (l * (m * w)) (m * w)) (source-moved source
-      (part-added p c e w m (l * (m * w)) (m * w) (inRow w) (inRow w) _ b new (pre .l-fits) (λ j t. within j t m w) (rw (aside, add-sub-cancel-left (l * (m * w)) (m * w)) at d)))
+  back new d = rw (add-sub-cancel-left (l * (m * w)) (m * w)) (written-as
+      (λ j t lj lt. ap₂ (λ (x y : ℕ). (x + c * whereTrue (leb e t) y) % p)
+      (getD-part (l * (m * w)) (m * w) b (pre .l-fits) (inRow w j t) (within j t m w lj lt)) (source j (t - e) lj (omega arith)))
+      (part-written (l * (m * w)) (m * w) b new (pre .l-fits) (λ j t. within j t m w) (rw (aside, add-sub-cancel-left (l * (m * w)) (m * w)) at d)))
 
 mul-size : tie.Need-mul-size
 mul-size c = search needs

@@ -1,6 +1,6 @@
 use borrow.Author.Needs.{needs}
 use native.Mathlib.Omega.{arith}
-use mathlib.Core.Path.{_≡_}
+use mathlib.Core.Path.{_≡_, subst}
 use mathlib.Core.List.{List}
 use Prim.Native.Nat.{ℕ, _*_}
 use Rattle.buffers.specs.Place.{place}
@@ -8,8 +8,7 @@ use Rattle.buffers.specs.Added.{CellsAdded, RowAdded}
 use Rattle.lists.proofs.Grid.{line-end}
 use Rattle.buffers.proofs.Place.{place-own}
 use Rattle.rows.specs.Asked.{spaced, LinePair, CellPairs}
-use Rattle.rows.proofs.Cells.{places-same}
-use Rattle.rows.proofs.Lines.{line-ends, line-cells}
+use Rattle.rows.proofs.Lines.{rows-spaced, line-ends, line-cells}
 use Rattle.rows.proofs.add_row_by_cells.Statement.{statement}
 use Rattle.rows.proofs.add_row_by_cells.Tie as tie
 
@@ -24,7 +23,7 @@ module _ (p reciprocal c e n w top l k : ℕ) (b spare : List ℕ) (pre : LinePa
       (λ i j t u li lj lt lu same. pre .differ (place-own n w l i t k j u li lt lj lu (same-place i j t u same) .0))
 
   added : (b′ : List ℕ) → CellsAdded p c e w n (spaced (l * (n * w)) w) (spaced (k * (n * w)) w) b b b′ → RowAdded p n w c e l k b b′
-  added b′ = places-same (λ i t. omega arith) (λ i t. omega arith)
+  added b′ = subst (λ spot. CellsAdded p c e w n (spot l) (spot k) b b b′) (rows-spaced n w)
 
 mul-size : tie.Need-mul-size
 mul-size c = omega (arith, line-ends (c .before .before .pre))

@@ -2,8 +2,8 @@ use native.Mathlib.Omega.{arith}
 use borrow.Author.Needs.{needs}
 use Prim.Native.Nat.{_+_, _-_, _*_, _<_}
 use Rattle.lists.proofs.Grid.{within}
-use Rattle.stepping.proofs.leading.Statement.{statement}
-use Rattle.stepping.proofs.leading.Tie as tie
+use Rattle.stepping.proofs.coefficient.Statement.{statement}
+use Rattle.stepping.proofs.coefficient.Tie as tie
 
 -- the coefficient lies in the row
 inside : (c : tie.After-struct-known2) → let args = c .before .before .args in (args .x .0 - 1) * args .w + (args .h .0 - 1) < args .m * args .w
@@ -39,8 +39,8 @@ shared-slice-read-t16 c = omega (arith, inside (c .before), c .before .before .b
 returns : tie.Need-returns
 returns c = search needs
 
-pub leading-spec : {M : Type 1} → statement M
-leading-spec =
+pub coefficient-spec : {M : Type 1} → statement M
+coefficient-spec =
     tie.close
     (tie.spec
     mul-s

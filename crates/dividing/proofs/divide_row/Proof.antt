@@ -1,0 +1,77 @@
+use native.Mathlib.Omega.{arith}
+use borrow.Author.Needs.{needs}
+use Prim.Native.Nat.{_<_}
+use Rattle.dividing.proofs.OneRow.{divisor-is, zero-row, leading-below, r-row, u-row, cell-most}
+use Rattle.dividing.proofs.divide_row.Statement.{statement}
+use Rattle.dividing.proofs.divide_row.Tie as tie
+
+returns : tie.Need-returns
+returns c = zero-row (c .before .before .before .before .before .pre) (omega arith)
+
+coefficient-requires : tie.Need-coefficient-requires
+coefficient-requires c κs = c .before .before .before .before .before .before .pre .leading (omega arith)
+
+inverse-requires : tie.Need-inverse-requires
+inverse-requires c κs =
+    let start = c .before .before .before .before .before .before .before in
+    let some : 0 < start .args .x .0 = omega arith in
+    (start .pre .matrices .ready, (start .pre .matrices .prime, rw (c .coefficient .ensures) (start .pre .nonzero some, leading-below (start .pre) some)))
+
+scale-row-requires : tie.Need-scale-row-requires
+scale-row-requires c κs = r-row (c .before .before .before .before .before .before .before .before .before .pre)
+
+mul-scale-row : tie.Need-mul-scale-row
+mul-scale-row c =
+    let start = c .before .before .before .before .before .before .before .before .before .before .before .before .before in
+    omega (arith, cell-most (start .pre), start .good)
+
+scale-row-requires-2 : tie.Need-scale-row-requires-2
+scale-row-requires-2 c κs = u-row (c .before .before .before .before .before .before .before .before .before .before .before .before .before .pre)
+
+scale-column-requires : tie.Need-scale-column-requires
+scale-column-requires c κs =
+    let pre = c .before .before .before .before .before .before .before .before .before .before .before .before .before .before .before .before .before .pre in
+    record { ready = pre .matrices .ready; size = pre .matrices .v-size; x-fits = pre .fits }
+
+same-length : tie.Need-same-length
+same-length c = search needs
+
+same-length-2 : tie.Need-same-length-2
+same-length-2 c = search needs
+
+same-length-3 : tie.Need-same-length-3
+same-length-3 c = search needs
+
+returns-2 : tie.Need-returns-2
+returns-2 c =
+    let multiplied = c .before .before in
+    let followed = multiplied .before .before .before .before in
+    let divided = followed .before .before .before .before in
+    let inverted = divided .before .before in
+    let led = inverted .before in
+    let some : 0 < led .before .before .before .before .before .before .before .args .x .0 = omega arith in
+    record {
+      c = led .coefficient .result .0;
+      f = inverted .inverse .result .0;
+      c-is = divisor-is _ _ _ some (led .coefficient .ensures);
+      inverse = inverted .inverse .ensures;
+      r-divided = divided .scale-row .ensures;
+      u-divided = followed .scale-row2 .ensures;
+      v-multiplied = multiplied .scale-column .ensures;
+    }
+
+pub divide-row-spec : {M : Type 1} → statement M
+divide-row-spec =
+    tie.close
+    (tie.spec
+    returns
+    coefficient-requires
+    inverse-requires
+    scale-row-requires
+    mul-scale-row
+    scale-row-requires-2
+    scale-column-requires
+    same-length
+    same-length-2
+    same-length-3
+    returns-2)

@@ -1,0 +1,4 @@
+pub mod Searching
+pub mod Excesses
+pub mod Step
+pub mod Clearing

@@ -1,0 +1,74 @@
+use native.Mathlib.Omega.{arith}
+use mathlib.Core.Path.{_≡_}
+use mathlib.Core.Logic.{⊎-elim}
+use Prim.Native.Nat.{_-_, _≤_}
+use Rattle.removing.specs.Excess.{excessAt, IsHighest}
+use Rattle.removing.proofs.Searching.{highest-start, highest-new, highest-old}
+use Rattle.removing.proofs.highest.Statement.{statement}
+use Rattle.removing.proofs.highest.Tie as tie
+
+abbrev Inv-loop : tie.InvT-loop
+Inv-loop r index degree k m w at₀ most₀ i₀ at most i = (i ≤ k) × IsHighest i (excessAt m w r index degree k) at most
+
+abbrev μ-loop : tie.MeasureT-loop
+μ-loop r index degree k m w at₀ most₀ i₀ at most i = k - i
+
+loop-holds : tie.Need-loop-holds Inv-loop μ-loop
+loop-holds c = (omega arith, highest-start _)
+
+mul-t12 : tie.Need-mul-t12 Inv-loop μ-loop
+mul-t12 c = omega (arith, c .before .before .before .before .before .pre .index-room)
+
+shared-slice-read-t14 : tie.Need-shared-slice-read-t14 Inv-loop μ-loop
+shared-slice-read-t14 c = omega (arith, c .before .before .before .before .before .before .pre .index-room)
+
+mul-t16 : tie.Need-mul-t16 Inv-loop μ-loop
+mul-t16 c = omega (arith, c .before .before .before .before .before .before .pre .degree-room)
+
+shared-slice-read-t18 : tie.Need-shared-slice-read-t18 Inv-loop μ-loop
+shared-slice-read-t18 c = omega (arith, c .before .before .before .before .before .before .before .pre .degree-room)
+
+excess-requires : tie.Need-excess-requires Inv-loop μ-loop
+excess-requires c κs = c .before .before .before .before .before .before .before .pre .rows _ (c .before .before .loop-test .taken)
+
+add-i : tie.Need-add-i Inv-loop μ-loop
+add-i c = omega arith
+
+loop-less : tie.Need-loop-less Inv-loop μ-loop
+loop-less c = omega arith
+
+loop-again : tie.Need-loop-again Inv-loop μ-loop
+loop-again c =
+    let inv = c .before .before .before .before .before .loop .inv in
+    let found = c .before .excess .ensures in
+    let new = highest-new (inv .1) in
+    let old = highest-old (inv .1) in (
+      omega arith,
+      ⊎-elim
+          (λ w. rw (w .1, w .2, found) (new (omega (arith, w .0 .taken, found))))
+          (λ w. rw (w .1, w .2) (old (omega (arith, w .0 .left, found))))
+          (c .if1 .came),
+    )
+
+returns : tie.Need-returns Inv-loop μ-loop
+returns c =
+    let head = c .before .loop in
+    let all : head .i ≡ c .before .before .before .before .before .args .k = omega arith in
+    rw all at (head .inv .1)
+
+pub highest-spec : {M : Type 1} → statement M
+highest-spec =
+    tie.close
+    (tie.spec
+    Inv-loop
+    μ-loop
+    loop-holds
+    mul-t12
+    shared-slice-read-t14
+    mul-t16
+    shared-slice-read-t18
+    excess-requires
+    add-i
+    loop-less
+    loop-again
+    returns)

@@ -1,0 +1,130 @@
+use native.Mathlib.Omega.{arith}
+use mathlib.Core.Path.{_≡_, refl, sym, _∙_}
+use mathlib.Core.List.{List}
+use Prim.Native.Nat.{ℕ, suc, _+_, _*_, _-_, _≤_, _<_}
+use native.Mathlib.Nat as N
+use lib.ListN.{getD}
+use Rattle.algebra.proofs.Cases.{case-le}
+use Rattle.buffers.specs.Place.{place}
+use Rattle.buffers.specs.Exchanged.{CellsExchanged}
+use Rattle.buffers.proofs.Place.{place-own}
+use Rattle.rows.specs.Asked.{TwoParts, TwoColumns}
+use Rattle.rows.proofs.Lines.{cell-ends, cells-apart}
+use Rattle.rows.proofs.exchange.exchange_columns.Statement.{statement}
+use Rattle.rows.proofs.exchange.exchange_columns.Tie as tie
+
+-- one turn: the cells in row i
+module _ (n w x y : ℕ) (v₀ v : List ℕ) (pre : TwoColumns n w x y v₀) (i : ℕ)
+    (done : CellsExchanged w i (λ j. place n w j x) (λ j. place n w j y) v₀ v) (li : i < n) where
+  parts : TwoParts w (i * (n * w) + x * w) (i * (n * w) + y * w) v
+  parts = record {
+    one-fits = omega (arith, done .size, pre .size, cell-ends w li (pre .x-fits));
+    other-fits = omega (arith, done .size, pre .size, cell-ends w li (pre .y-fits));
+    apart = λ t u lt lu same. pre .differ (place-own n w i x t i y u (pre .x-fits) lt (pre .y-fits) lu (omega arith) .1 .0);
+  }
+
+  -- row i is as it was
+  kept : (a t : ℕ) → a < n → t < w → getD v (place n w i a t) 0 ≡ getD v₀ (place n w i a t) 0
+  kept a t la lt = done .others _
+      (λ j u lj lu same. cells-apart n w j x u i a t (pre .x-fits) lu la lt lj (sym same))
+      (λ j u lj lu same. cells-apart n w j y u i a t (pre .y-fits) lu la lt lj (sym same))
+
+  module _ (v′ : List ℕ) (cell : CellsExchanged w 1 (λ _. place n w i x) (λ _. place n w i y) v v′) where
+    -- and the rows before it stay
+    stays : (j a t : ℕ) → j < i → a < n → t < w → getD v′ (place n w j a t) 0 ≡ getD v (place n w j a t) 0
+    stays j a t lj la lt = cell .others _
+        (λ _ u _ lu. cells-apart n w j a t i x u la lt (pre .x-fits) lu lj)
+        (λ _ u _ lu. cells-apart n w j a t i y u la lt (pre .y-fits) lu lj)
+
+    turn : CellsExchanged w (i + 1) (λ j. place n w j x) (λ j. place n w j y) v₀ v′
+    turn = record {
+      size = cell .size ∙ done .size;
+      exchanged = λ j t lj lt. case-le (suc j) i
+          (λ before. let (one, other) = done .exchanged j t before lt in
+          (stays j x t before (pre .x-fits) lt ∙ one, stays j y t before (pre .y-fits) lt ∙ other))
+          (λ from. let here : j ≡ i = omega arith in
+          let (one, other) = cell .exchanged 0 t (omega arith) lt in
+          rw here (one ∙ kept y t (pre .y-fits) lt, other ∙ kept x t (pre .x-fits) lt));
+      others = λ z outside outside′.
+          cell .others z (λ _ t _ lt. outside i t (omega arith) lt) (λ _ t _ lt. outside′ i t (omega arith) lt)
+          ∙ done .others z (λ j t lj lt. outside j t (omega arith) lt) (λ j t lj lt. outside′ j t (omega arith) lt);
+    }
+
+abbrev Inv-loop : tie.InvT-loop
+Inv-loop v₀ n w x y i₀ v i = (i ≤ n) × CellsExchanged w i (λ j. place n w j x) (λ j. place n w j y) v₀ v
+
+abbrev μ-loop : tie.MeasureT-loop
+μ-loop v₀ n w x y i₀ v i = n - i
+
+loop-holds : tie.Need-loop-holds Inv-loop μ-loop
+loop-holds c = (omega arith, record { size = refl; exchanged = λ i t l _. absurd (omega arith); others = λ _ _ _. refl })
+
+mul-row : tie.Need-mul-row Inv-loop μ-loop
+mul-row c = let start = c .before .before .before in omega (arith, cell-ends (start .args .w) (c .loop-test .taken) (start .pre .x-fits))
+
+mul-row-2 : tie.Need-mul-row-2 Inv-loop μ-loop
+mul-row-2 c = let start = c .before .before .before in omega (arith, cell-ends (start .args .w) (c .loop-test .taken) (start .pre .x-fits))
+
+mul-exchange-parts : tie.Need-mul-exchange-parts Inv-loop μ-loop
+mul-exchange-parts c =
+    let start = c .before .before .before .before in omega (arith, cell-ends (start .args .w) (c .before .loop-test .taken) (start .pre .x-fits))
+
+add-exchange-parts : tie.Need-add-exchange-parts Inv-loop μ-loop
+add-exchange-parts c =
+    let start = c .before .before .before .before in omega (arith, cell-ends (start .args .w) (c .before .loop-test .taken) (start .pre .x-fits))
+
+mul-exchange-parts-2 : tie.Need-mul-exchange-parts-2 Inv-loop μ-loop
+mul-exchange-parts-2 c =
+    let start = c .before .before .before .before in omega (arith, cell-ends (start .args .w) (c .before .loop-test .taken) (start .pre .y-fits))
+
+add-exchange-parts-2 : tie.Need-add-exchange-parts-2 Inv-loop μ-loop
+add-exchange-parts-2 c =
+    let start = c .before .before .before .before in omega (arith, cell-ends (start .args .w) (c .before .loop-test .taken) (start .pre .y-fits))
+
+exchange-parts-requires : tie.Need-exchange-parts-requires Inv-loop μ-loop
+exchange-parts-requires c κs =
+    let turning = c .before in
+    parts _ _ _ _ _ _ (turning .before .before .before .pre) _ (turning .before .loop .inv .1) (turning .loop-test .taken)
+
+add-i : tie.Need-add-i Inv-loop μ-loop
+add-i c = omega arith
+
+loop-less : tie.Need-loop-less Inv-loop μ-loop
+loop-less c = omega arith
+
+loop-again : tie.Need-loop-again Inv-loop μ-loop
+loop-again c =
+    let called = c .before .before in
+    let turning = called .before .before in (
+      omega arith,
+      turn _ _ _ _ _ _ (turning .before .before .before .pre) _ (turning .before .loop .inv .1) (turning .loop-test .taken) _
+          (simp N.add-assoc at (called .exchange-parts .ensures)),
+    )
+
+same-length : tie.Need-same-length Inv-loop μ-loop
+same-length c = c .before .loop .inv .1 .size
+
+returns : tie.Need-returns Inv-loop μ-loop
+returns c =
+    let all : c .before .loop .i ≡ c .before .before .before .args .n = omega arith in
+    rw all at (c .before .loop .inv .1)
+
+pub exchange-columns-spec : {M : Type 1} → statement M
+exchange-columns-spec =
+    tie.close
+    (tie.spec
+    Inv-loop
+    μ-loop
+    loop-holds
+    mul-row
+    mul-row-2
+    mul-exchange-parts
+    add-exchange-parts
+    mul-exchange-parts-2
+    add-exchange-parts-2
+    exchange-parts-requires
+    add-i
+    loop-less
+    loop-again
+    same-length
+    returns)

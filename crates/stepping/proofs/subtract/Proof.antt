@@ -1,0 +1,51 @@
+use borrow.Author.Needs.{needs}
+use mathlib.Core.Path.{_∙_}
+use Rattle.stepping.proofs.Following.{r-asked, u-asked, v-asked}
+use Rattle.stepping.proofs.subtract.Statement.{statement}
+use Rattle.stepping.proofs.subtract.Tie as tie
+
+add-row-requires : tie.Need-add-row-requires
+add-row-requires c κs = r-asked (c .before .before .before .before .before .before .pre)
+
+mul-add-row-by-cells : tie.Need-mul-add-row-by-cells
+mul-add-row-by-cells c = search needs
+
+add-row-by-cells-requires : tie.Need-add-row-by-cells-requires
+add-row-by-cells-requires c κs =
+    let added = c .before .before .before .before .before .before in
+    u-asked (added .before .before .before .before .before .before .before .pre) _ (added .add-row .kept .1 .0)
+
+add-column-requires : tie.Need-add-column-requires
+add-column-requires c κs =
+    let followed = c .before .before .before .before .before .before in
+    let added = followed .before .before .before .before .before .before .before in
+    v-asked (added .before .before .before .before .before .before .before .pre) _ (followed .add-row-by-cells .kept .1 .0 ∙ added .add-row .kept .1 .0)
+
+same-length : tie.Need-same-length
+same-length c = search needs
+
+same-length-2 : tie.Need-same-length-2
+same-length-2 c = search needs
+
+same-length-3 : tie.Need-same-length-3
+same-length-3 c = search needs
+
+same-length-4 : tie.Need-same-length-4
+same-length-4 c = search needs
+
+returns : tie.Need-returns
+returns c = search needs
+
+pub subtract-spec : {M : Type 1} → statement M
+subtract-spec =
+    tie.close
+    (tie.spec
+    add-row-requires
+    mul-add-row-by-cells
+    add-row-by-cells-requires
+    add-column-requires
+    same-length
+    same-length-2
+    same-length-3
+    same-length-4
+    returns)
