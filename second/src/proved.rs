@@ -2,6 +2,7 @@
 //! concerns these functions stands in this file; it is compiled only with the
 //! feature `proved`.
 
+use crate::check;
 use crate::matrix::Matrix;
 use crate::reduce;
 use crate::refuse::{self, Refusal, Service};
@@ -294,7 +295,8 @@ pub fn matrix_agrees(label: &str, service: Service, p: u64, d: usize, a: &Matrix
 }
 
 /// Compares all refusal inputs and then samples 0 to count - 1 of the seed.
-/// Returns how many agree and how many do not. For the single step each sample
+/// Returns how many agree and how many do not. What the reduction gives is also
+/// multiplied out: U·A, V·R, U·V and V·U. For the single step each sample
 /// is compared at three matrices of its reduction: the first, one on the way,
 /// and the last, where the form is reached.
 pub fn compare(service: Service, count: u64, seed: u64) -> (u64, u64) {
@@ -326,6 +328,13 @@ pub fn compare(service: Service, count: u64, seed: u64) -> (u64, u64) {
         let Sample { kind, p, d, a } = sample::sample(seed, number);
         let label = format!("sample {number} of seed {seed}, {kind:?}");
         let mut good = matrix_agrees(&label, service, p, d, &a);
+        if service == Service::Reduction {
+            let faults = check::check_reduction(p, d, &a, &reduce::reduce(p, &a));
+            for fault in &faults {
+                println!("{label}: {fault}");
+            }
+            good &= faults.is_empty();
+        }
         if service == Service::SingleStep {
             let done = reduce::reduce(p, &a);
             let some = number % (done.count + 1);
