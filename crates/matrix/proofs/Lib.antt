@@ -8,3 +8,4 @@ pub mod SingleService
 pub mod SingleStep
 pub mod PopovFacts
 pub mod Finishing
+pub mod PopovService

@@ -2,10 +2,13 @@
 use mathlib.Core.Path.{_≡_}
 use mathlib.Core.Bool.{false}
 use mathlib.Core.List.{List}
-use Prim.Native.Nat.{ℕ, _+_, _<_}
+use Prim.Native.Nat.{ℕ, _+_, _*_, _≤_, _<_}
+use lib.ListN.{length}
 use Rattle.algebra.specs.Prime.{Prime}
 use Rattle.algebra.specs.Residue.{Zp}
 use Rattle.algebra.proofs.PrimeField.{zp-field}
+use Rattle.poly.specs.Modulus.{Ready}
+use Rattle.poly.specs.Polynomial.{Coefficients}
 use Rattle.buffers.specs.Held.{matrixOf}
 use Rattle.buffers.proofs.Place.{by-rows}
 use Rattle.reduction.specs.Rank.{chosen}
@@ -13,9 +16,12 @@ use Rattle.reduction.specs.Step.{Carried}
 use Rattle.popov.specs.PopovRun.{PopovRun}
 use Rattle.pivots.specs.Pivot.{valuesOf}
 use Rattle.stepping.specs.Holding.{Holding}
+use Rattle.refusals.specs.Number as Refusal
 use Rattle.refusals.specs.Answering.{Answering}
 use Rattle.refusals.specs.Refused.{refusalTable, reductionSizes}
-use Rattle.matrix.specs.Answer.{lengths}
+use Rattle.matrix.specs.Answer.{lengths, IsDone}
+use Rattle.matrix.specs.declared.popov_form.PopovAnswer.{PopovAnswer}
+use Rattle.matrix.specs.declared.popov_form.PopovAnswer.the-variants.{NotDone, Done}
 
 -- paper 01's way from the matrix in a, by `first` steps of the first kind and `second` of the second, ends at what stands in r, u and v
 pub record PopovBy (p : ℕ) (P : Prime p) (some : 0 < p) (n m w first second : ℕ) (a r u v : List ℕ) : Type 0 where
@@ -35,3 +41,59 @@ PopovPromised p n m d a r u v r′ u′ v′ number place rank first second =
     Answering (refusalTable false p n m d (lengths a r u v) (reductionSizes n m d) a) number place
     {Outcome = ℕ × ℕ × ℕ × List ℕ × List ℕ × List ℕ} (rank, first, second, r′, u′, v′) (0, 0, 0, r, u, v)
     (IsPopov p n m (d + 1) a r′ u′ v′ rank first second)
+
+-- the numbers of an answer
+abbrev pub numberOf : PopovAnswer → ℕ
+numberOf (NotDone x) = Refusal.numberOf x
+numberOf (Done rank first second) = 0
+
+abbrev pub placeOf : PopovAnswer → ℕ
+placeOf (NotDone x) = Refusal.placeOf x
+placeOf (Done rank first second) = 0
+
+abbrev pub rankOf : PopovAnswer → ℕ
+rankOf (NotDone x) = 0
+rankOf (Done rank first second) = rank
+
+abbrev pub firstOf : PopovAnswer → ℕ
+firstOf (NotDone x) = 0
+firstOf (Done rank first second) = first
+
+abbrev pub secondOf : PopovAnswer → ℕ
+secondOf (NotDone x) = 0
+secondOf (Done rank first second) = second
+
+-- the promise of an answer, by its numbers
+abbrev pub PopovAnswered : (p n m d : ℕ) (a r u v r′ u′ v′ : List ℕ) → PopovAnswer → Type 0
+PopovAnswered p n m d a r u v r′ u′ v′ x =
+    PopovPromised p n m d a r u v r′ u′ v′ (numberOf x) (placeOf x) (rankOf x) (firstOf x) (secondOf x)
+
+-- three matrices of at most eight rows, whose lengths are those of the paper's table
+pub record Shaped (n m w : ℕ) (r u v : List ℕ) : Type 0 where
+  pub rows : 0 < n
+  pub rows-most : n ≤ 8
+  pub columns : 0 < m
+  pub row-few : m * w ≤ 512
+  pub cell-few : n * w ≤ 512
+  pub r-size : length r ≡ n * (m * w)
+  pub u-size : length u ≡ n * (n * (n * w))
+  pub v-size : length v ≡ n * (n * w)
+
+-- the buffers hold what the reduction promised of some matrix
+pub record FinishAsked (p reciprocal n m w : ℕ) (r u v : List ℕ) : Type 0 where
+  pub ready : Ready p reciprocal
+  pub prime : Prime p
+  pub shaped : Shaped n m w r u v
+  pub places : 0 < w
+  pub a : List ℕ
+  pub size : length a ≡ n * (m * w)
+  pub residues : Coefficients p a
+  pub rank : ℕ
+  pub count : ℕ
+  pub list : ℕ
+  pub done : IsDone p n m w a r u v rank count list
+
+-- of every such matrix they now hold the Popov form, reached by `second` steps of the second kind
+pub record Finished (p n m w second : ℕ) (r u v r′ u′ v′ : List ℕ) : Type 0 where
+  pub popov : {a : List ℕ} {rank count list : ℕ} → length a ≡ n * (m * w) → Coefficients p a → IsDone p n m w a r u v rank count list
+      → IsPopov p n m w a r′ u′ v′ rank count second
