@@ -22,11 +22,13 @@ use Rattle.popov.specs.PopovFacts.{PopovFacts}
 use Rattle.popov.proofs.Facts.{popov-unique, popov-facts}
 use Rattle.popov.proofs.Equivalence.{popov-equivalent}
 use Rattle.refusals.specs.Refused.{reductionSizes}
-use Rattle.refusals.proofs.Answering.{InOrder, in-order}
-use Rattle.refusals.proofs.Unique.{answering-unique, told-unique}
+use Rattle.refusals.proofs.Answering.{refusal-number, InOrder, in-order}
+use Rattle.refusals.proofs.Unique.{refusal-same, answering-unique, told-unique}
 use Rattle.stepping.specs.Holding.{Holding}
 use Rattle.matrix.specs.Answer.{lengths}
-use Rattle.matrix.specs.Popov.{PopovBy, IsPopov, PopovPromised}
+use Rattle.matrix.specs.Popov.{PopovBy, IsPopov, PopovPromised, PopovAnswered, numberOf, placeOf, rankOf, firstOf, secondOf}
+use Rattle.matrix.specs.declared.popov_form.PopovAnswer.{PopovAnswer}
+use Rattle.matrix.specs.declared.popov_form.PopovAnswer.the-variants.{NotDone, Done}
 use Rattle.matrix.proofs.Unique.{holding-unique}
 
 -- the input determines all that is returned
@@ -42,6 +44,14 @@ popov-done-unique {p} {n} {m} {w} {rank} {rank′ = rank′} {r = r} {u} {v} P x
     let ranks : rank ≡ rank′ = x .rank-is ∙ ap (λ (l : List ℕ). chosen n (valuesOf m w l)) same-r ∙ sym (y .rank-is) in
     λ i. (ranks i, firsts i, seconds i, same-r i, same-u i, same-v i)
 
+-- an answer is determined by its numbers
+popov-answer-same : (x y : PopovAnswer) → numberOf x ≡ numberOf y → placeOf x ≡ placeOf y → rankOf x ≡ rankOf y → firstOf x ≡ firstOf y
+    → secondOf x ≡ secondOf y → x ≡ y
+popov-answer-same (NotDone x) (NotDone y) numbers places ranks firsts seconds = ap NotDone (refusal-same x y numbers places)
+popov-answer-same (NotDone x) (Done rank first second) numbers places ranks firsts seconds = absurd (omega (arith, refusal-number x))
+popov-answer-same (Done rank first second) (NotDone y) numbers places ranks firsts seconds = absurd (omega (arith, refusal-number y))
+popov-answer-same (Done rank first second) (Done rank′ first′ second′) numbers places ranks firsts seconds = cc
+
 module _ (p n m d : ℕ) (a r u v r₁ u₁ v₁ r₂ u₂ v₂ : List ℕ) where
   -- two answers that the promise allows are equal in every number, and so is every buffer at exit
   pub popov-promised-unique : {number₁ place₁ rank₁ first₁ second₁ number₂ place₂ rank₂ first₂ second₂ : ℕ}
@@ -52,6 +62,13 @@ module _ (p n m d : ℕ) (a r u v r₁ u₁ v₁ r₂ u₂ v₂ : List ℕ) wher
       let (numbers, places, same) = answering-unique (told-unique false p n m d (lengths a r u v) (reductionSizes n m d) a)
       (λ none. popov-done-unique (in-order {determinant = false} none (f .told) .numbers .modulus .prime)) f g in
       (numbers, places, (λ i. same i .0), (λ i. same i .1), (λ i. same i .2), (λ i. same i .3), (λ i. same i .4), (λ i. same i .5))
+
+  -- so the enums are equal
+  pub popov-answered-unique : (x y : PopovAnswer) → PopovAnswered p n m d a r u v r₁ u₁ v₁ x → PopovAnswered p n m d a r u v r₂ u₂ v₂ y
+      → (x ≡ y) × (r₁ ≡ r₂) × (u₁ ≡ u₂) × (v₁ ≡ v₂)
+  popov-answered-unique x y f g =
+      let (numbers, places, ranks, firsts, seconds, same-r, same-u, same-v) = popov-promised-unique f g in
+      (popov-answer-same x y numbers places ranks firsts seconds, same-r, same-u, same-v)
 
 -- a call that is answered by 0: p is prime, and the matrix in a is the one that its places say
 module _ {p n m d : ℕ} {a r u v r′ u′ v′ : List ℕ} {place rank first second : ℕ}

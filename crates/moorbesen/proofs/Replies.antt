@@ -10,8 +10,12 @@ use Rattle.matrix.specs.Answer.{Answered}
 use Rattle.matrix.specs.declared.single.StepAnswer.{StepAnswer}
 use Rattle.matrix.specs.declared.single.StepAnswer.the-variants as Step
 use Rattle.matrix.specs.Single.{StepAnswered}
+use Rattle.matrix.specs.declared.popov_form.PopovAnswer.{PopovAnswer}
+use Rattle.matrix.specs.declared.popov_form.PopovAnswer.the-variants as Popov
+use Rattle.matrix.specs.Popov.{PopovAnswered}
 use Rattle.moorbesen.specs.declared.Reply.{Reply}
-use Rattle.moorbesen.specs.Reply.{Refusing, Replied, StepReplied}
+use Rattle.moorbesen.specs.declared.PopovReply.{PopovReply}
+use Rattle.moorbesen.specs.Reply.{Refusing, Replied, StepReplied, PopovRefusing, PopovReplied}
 
 -- the reply to a refused call
 abbrev refusal : (number place : ℕ) → Reply
@@ -40,3 +44,18 @@ module _ {p n m d : ℕ} {a r r′ : List ℕ} where
   pub step-replied-done : {count : ℕ} (x : StepAnswer) → x ≡ Step.Done count → StepAnswered p n m d a r r′ x
       → StepReplied p n m d a r r′ (record { number = 0; place = 0; rank = 0; count = count; rows = 0 })
   step-replied-done x x-is h = (subst (StepAnswered p n m d a r r′) x-is h, refl, refl)
+
+-- of the Popov form
+popov-refused-is : {number place : ℕ} {x : PopovReply} → PopovRefusing number place x
+    → x ≡ record { number = number; place = place; rank = 0; first = 0; second = 0 }
+popov-refused-is h = λ i. record { number = h .number-is i; place = h .place-is i; rank = h .rank-is i; first = h .first-is i; second = h .second-is i }
+
+module _ {p n m d : ℕ} {a r u v r′ u′ v′ : List ℕ} where
+  pub popov-replied-refused : (x : PopovAnswer) (y : Refusal) (z : PopovReply) → x ≡ Popov.NotDone y → PopovRefusing (numberOf y) (placeOf y) z
+      → PopovAnswered p n m d a r u v r′ u′ v′ x → PopovReplied p n m d a r u v r′ u′ v′ z
+  popov-replied-refused x y z x-is refusing h =
+      subst⁻¹ (PopovReplied p n m d a r u v r′ u′ v′) (popov-refused-is refusing) (subst (PopovAnswered p n m d a r u v r′ u′ v′) x-is h)
+
+  pub popov-replied-done : {rank first second : ℕ} (x : PopovAnswer) → x ≡ Popov.Done rank first second → PopovAnswered p n m d a r u v r′ u′ v′ x
+      → PopovReplied p n m d a r u v r′ u′ v′ (record { number = 0; place = 0; rank = rank; first = first; second = second })
+  popov-replied-done x x-is h = subst (PopovAnswered p n m d a r u v r′ u′ v′) x-is h

@@ -4,7 +4,9 @@ use mathlib.Core.List.{List}
 use Prim.Native.Nat.{ℕ}
 use Rattle.matrix.specs.Answer.{Promised}
 use Rattle.matrix.specs.Single.{StepPromised}
+use Rattle.matrix.specs.Popov.{PopovPromised}
 use Rattle.moorbesen.specs.declared.Reply.{Reply}
+use Rattle.moorbesen.specs.declared.PopovReply.{PopovReply}
 
 -- "Rank and counts in a refusal are 0, the row list is empty"
 pub record Refusing (number place : ℕ) (x : Reply) : Type 0 where
@@ -21,3 +23,15 @@ Replied p n m d a r u v r′ u′ v′ x = Promised p n m d a r u v r′ u′ v�
 -- and that of the single step, which has neither rank nor list of rows
 abbrev pub StepReplied : (p n m d : ℕ) (a r r′ : List ℕ) → Reply → Type 0
 StepReplied p n m d a r r′ x = StepPromised p n m d a r r′ (x .number) (x .place) (x .count) × (x .rank ≡ 0) × (x .rows ≡ 0)
+
+-- a refusal of the Popov form: "Rank and counts in a refusal are 0"
+pub record PopovRefusing (number place : ℕ) (x : PopovReply) : Type 0 where
+  pub number-is : x .number ≡ number
+  pub place-is : x .place ≡ place
+  pub rank-is : x .rank ≡ 0
+  pub first-is : x .first ≡ 0
+  pub second-is : x .second ≡ 0
+
+-- and the promise of the Popov form
+abbrev pub PopovReplied : (p n m d : ℕ) (a r u v r′ u′ v′ : List ℕ) → PopovReply → Type 0
+PopovReplied p n m d a r u v r′ u′ v′ x = PopovPromised p n m d a r u v r′ u′ v′ (x .number) (x .place) (x .rank) (x .first) (x .second)

@@ -1,6 +1,8 @@
 // The services for programs in C: each forwards to the matrix crate and tells the answer by its numbers.
 ghost use Rattle.refusals.specs.Number.{numberOf, placeOf};
-ghost use Rattle.moorbesen.specs.Reply.{Refusing, Replied, StepReplied};
+ghost use Rattle.moorbesen.specs.Reply.{Refusing, Replied, StepReplied, PopovRefusing, PopovReplied};
+use matrix::popov_form;
+use matrix::popov_form::PopovAnswer;
 use matrix::reducing;
 use matrix::reducing::Answer;
 use matrix::single;
@@ -87,6 +89,58 @@ pub extern "C" fn moorbesen_step(
             rank: 0,
             count,
             rows: 0,
+        },
+    }
+}
+
+// The two counts are those of the first and of the second kind.
+#[repr(C)]
+pub struct PopovReply {
+    pub number: usize,
+    pub place: usize,
+    pub rank: usize,
+    pub first: u64,
+    pub second: u64,
+}
+
+fn popov_refused(x: Refusal) -> PopovReply
+    ensures { λ y. ⌜ PopovRefusing (numberOf x) (placeOf x) y ⌝ }
+{
+    let y = refused(x);
+    PopovReply {
+        number: y.number,
+        place: y.place,
+        rank: 0,
+        first: 0,
+        second: 0,
+    }
+}
+
+#[no_mangle]
+pub extern "C" fn moorbesen_popov(
+    p: u32,
+    n: usize,
+    m: usize,
+    d: usize,
+    a: &[u16],
+    r: &mut [u16],
+    u: &mut [u16],
+    v: &mut [u16],
+) -> PopovReply
+    ensures { λ x. ⌜ PopovReplied p n m d (now (a .entry)) (now (r .entry)) (now (u .entry)) (now (v .entry)) (now (r .exit)) (now (u .exit)) (now (v .exit)) x ⌝ }
+{
+    match popov_form::form(p, n, m, d, a, r, u, v) {
+        PopovAnswer::NotDone(x) => popov_refused(x),
+        PopovAnswer::Done {
+            rank,
+            first,
+            second,
+        } => PopovReply {
+            number: 0,
+            place: 0,
+            rank,
+            first,
+            second,
         },
     }
 }
