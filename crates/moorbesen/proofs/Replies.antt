@@ -15,7 +15,7 @@ use Rattle.matrix.specs.declared.popov_form.PopovAnswer.the-variants as Popov
 use Rattle.matrix.specs.Popov.{PopovAnswered}
 use Rattle.moorbesen.specs.declared.Reply.{Reply}
 use Rattle.moorbesen.specs.declared.PopovReply.{PopovReply}
-use Rattle.moorbesen.specs.Reply.{Refusing, Replied, StepReplied, PopovRefusing, PopovReplied}
+use Rattle.moorbesen.specs.Reply.{Refusing, Replied, StepReplied, PopovTells, PopovReplied}
 
 -- the reply to a refused call
 abbrev refusal : (number place : ℕ) → Reply
@@ -46,16 +46,16 @@ module _ {p n m d : ℕ} {a r r′ : List ℕ} where
   step-replied-done x x-is h = (subst (StepAnswered p n m d a r r′) x-is h, refl, refl)
 
 -- of the Popov form
-popov-refused-is : {number place : ℕ} {x : PopovReply} → PopovRefusing number place x
-    → x ≡ record { number = number; place = place; rank = 0; first = 0; second = 0 }
-popov-refused-is h = λ i. record { number = h .number-is i; place = h .place-is i; rank = h .rank-is i; first = h .first-is i; second = h .second-is i }
+popov-tells : {number place rank first second : ℕ} {x : PopovReply} → PopovTells number place rank first second x
+    → x ≡ record { number = number; place = place; rank = rank; first = first; second = second }
+popov-tells h = λ i. record { number = h .number-is i; place = h .place-is i; rank = h .rank-is i; first = h .first-is i; second = h .second-is i }
 
-module _ {p n m d : ℕ} {a r u v r′ u′ v′ : List ℕ} where
-  pub popov-replied-refused : (x : PopovAnswer) (y : Refusal) (z : PopovReply) → x ≡ Popov.NotDone y → PopovRefusing (numberOf y) (placeOf y) z
-      → PopovAnswered p n m d a r u v r′ u′ v′ x → PopovReplied p n m d a r u v r′ u′ v′ z
-  popov-replied-refused x y z x-is refusing h =
-      subst⁻¹ (PopovReplied p n m d a r u v r′ u′ v′) (popov-refused-is refusing) (subst (PopovAnswered p n m d a r u v r′ u′ v′) x-is h)
+module _ {p n m d : ℕ} {a r u v r′ u′ v′ : List ℕ} (x : PopovAnswer) (h : PopovAnswered p n m d a r u v r′ u′ v′ x) where
+  pub popov-replied-refused : (y : Refusal) {number place : ℕ} (z : PopovReply) → x ≡ Popov.NotDone y → number ≡ numberOf y → place ≡ placeOf y
+      → PopovTells number place 0 0 0 z → PopovReplied p n m d a r u v r′ u′ v′ z
+  popov-replied-refused y z x-is number-is place-is tells =
+      rw (popov-tells tells) (rw number-is (rw place-is (subst (PopovAnswered p n m d a r u v r′ u′ v′) x-is h)))
 
-  pub popov-replied-done : {rank first second : ℕ} (x : PopovAnswer) → x ≡ Popov.Done rank first second → PopovAnswered p n m d a r u v r′ u′ v′ x
-      → PopovReplied p n m d a r u v r′ u′ v′ (record { number = 0; place = 0; rank = rank; first = first; second = second })
-  popov-replied-done x x-is h = subst (PopovAnswered p n m d a r u v r′ u′ v′) x-is h
+  pub popov-replied-done : {rank first second : ℕ} (z : PopovReply) → x ≡ Popov.Done rank first second → PopovTells 0 0 rank first second z
+      → PopovReplied p n m d a r u v r′ u′ v′ z
+  popov-replied-done z x-is tells = rw (popov-tells tells) (subst (PopovAnswered p n m d a r u v r′ u′ v′) x-is h)

@@ -24,13 +24,13 @@ Replied p n m d a r u v r′ u′ v′ x = Promised p n m d a r u v r′ u′ v�
 abbrev pub StepReplied : (p n m d : ℕ) (a r r′ : List ℕ) → Reply → Type 0
 StepReplied p n m d a r r′ x = StepPromised p n m d a r r′ (x .number) (x .place) (x .count) × (x .rank ≡ 0) × (x .rows ≡ 0)
 
--- a refusal of the Popov form: "Rank and counts in a refusal are 0"
-pub record PopovRefusing (number place : ℕ) (x : PopovReply) : Type 0 where
+-- the numbers of a reply of the Popov form
+pub record PopovTells (number place rank first second : ℕ) (x : PopovReply) : Type 0 where
   pub number-is : x .number ≡ number
   pub place-is : x .place ≡ place
-  pub rank-is : x .rank ≡ 0
-  pub first-is : x .first ≡ 0
-  pub second-is : x .second ≡ 0
+  pub rank-is : x .rank ≡ rank
+  pub first-is : x .first ≡ first
+  pub second-is : x .second ≡ second
 
 -- and the promise of the Popov form
 abbrev pub PopovReplied : (p n m d : ℕ) (a r u v r′ u′ v′ : List ℕ) → PopovReply → Type 0

@@ -1,6 +1,6 @@
 // The services for programs in C: each forwards to the matrix crate and tells the answer by its numbers.
 ghost use Rattle.refusals.specs.Number.{numberOf, placeOf};
-ghost use Rattle.moorbesen.specs.Reply.{Refusing, Replied, StepReplied, PopovRefusing, PopovReplied};
+ghost use Rattle.moorbesen.specs.Reply.{Refusing, Replied, StepReplied, PopovTells, PopovReplied};
 use matrix::popov_form;
 use matrix::popov_form::PopovAnswer;
 use matrix::reducing;
@@ -103,16 +103,15 @@ pub struct PopovReply {
     pub second: u64,
 }
 
-fn popov_refused(x: Refusal) -> PopovReply
-    ensures { λ y. ⌜ PopovRefusing (numberOf x) (placeOf x) y ⌝ }
+fn popov_reply(number: usize, place: usize, rank: usize, first: u64, second: u64) -> PopovReply
+    ensures { λ x. ⌜ PopovTells number place rank first second x ⌝ }
 {
-    let y = refused(x);
     PopovReply {
-        number: y.number,
-        place: y.place,
-        rank: 0,
-        first: 0,
-        second: 0,
+        number,
+        place,
+        rank,
+        first,
+        second,
     }
 }
 
@@ -130,17 +129,14 @@ pub extern "C" fn moorbesen_popov(
     ensures { λ x. ⌜ PopovReplied p n m d (now (a .entry)) (now (r .entry)) (now (u .entry)) (now (v .entry)) (now (r .exit)) (now (u .exit)) (now (v .exit)) x ⌝ }
 {
     match popov_form::form(p, n, m, d, a, r, u, v) {
-        PopovAnswer::NotDone(x) => popov_refused(x),
+        PopovAnswer::NotDone(x) => {
+            let y = refused(x);
+            popov_reply(y.number, y.place, 0, 0, 0)
+        }
         PopovAnswer::Done {
             rank,
             first,
             second,
-        } => PopovReply {
-            number: 0,
-            place: 0,
-            rank,
-            first,
-            second,
-        },
+        } => popov_reply(0, 0, rank, first, second),
     }
 }

@@ -9,11 +9,17 @@ form-requires c κs = search needs
 enum-known-x : tie.Need-enum-known-x
 enum-known-x c = search needs
 
-popov-refused-requires : tie.Need-popov-refused-requires
-popov-refused-requires c κs = search needs
+refused-requires : tie.Need-refused-requires
+refused-requires c κs = search needs
+
+popov-reply-requires : tie.Need-popov-reply-requires
+popov-reply-requires c κs = search needs
 
 enum-known-rank : tie.Need-enum-known-rank
 enum-known-rank c = search needs
+
+popov-reply-requires-2 : tie.Need-popov-reply-requires-2
+popov-reply-requires-2 c κs = search needs
 
 same-length : tie.Need-same-length
 same-length c = search needs
@@ -26,8 +32,9 @@ same-length-3 c = search needs
 
 returns : tie.Need-returns
 returns c =
-    let formed = c .before .before .before .before .before .before .before .before .before .before in
-    popov-replied-refused (formed .form .result) _ (c .popov-refused .result) (c .before .before .x .given .1) (c .popov-refused .ensures) (formed .form .ensures)
+    let formed = c .before .before .before .before .before .before .before .before .before .before .before in
+    let telling = c .before .refused .ensures in
+    popov-replied-refused _ (formed .form .ensures) _ (c .popov-reply .result) (c .before .before .before .x .given .1) (telling .number-is) (telling .place-is) (c .popov-reply .ensures)
 
 same-length-4 : tie.Need-same-length-4
 same-length-4 c = search needs
@@ -40,8 +47,8 @@ same-length-6 c = search needs
 
 returns-2 : tie.Need-returns-2
 returns-2 c =
-    let formed = c .before .before .before .before .before .before .before .before .before in
-    popov-replied-done (formed .form .result) (c .before .rank .given .1) (formed .form .ensures)
+    let formed = c .before .before .before .before .before .before .before .before .before .before in
+    popov-replied-done _ (formed .form .ensures) (c .popov-reply2 .result) (c .before .before .rank .given .1) (c .popov-reply2 .ensures)
 
 pub moorbesen-popov-spec : {M : Type 1} → statement M
 moorbesen-popov-spec =
@@ -49,8 +56,10 @@ moorbesen-popov-spec =
     (tie.spec
     form-requires
     enum-known-x
-    popov-refused-requires
+    refused-requires
+    popov-reply-requires
     enum-known-rank
+    popov-reply-requires-2
     same-length
     same-length-2
     same-length-3
