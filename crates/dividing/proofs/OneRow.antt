@@ -11,7 +11,7 @@ use Rattle.lists.proofs.Grid.{line-end, within, one-line}
 use Rattle.poly.specs.Polynomial.{Coefficients}
 use Rattle.buffers.specs.Place.{place}
 use Rattle.buffers.specs.Scaled.{CellsScaled}
-use Rattle.rows.specs.Asked.{PartToScale}
+use Rattle.scaling.specs.Asked.{PartToScale}
 use Rattle.dividing.specs.Monic.{Matrices, RowToDivide, whereSome, RowDivided}
 
 -- residues times 1

@@ -26,9 +26,9 @@ fn divide_row(
     }
     let c = stepping::coefficient(r, i, x, h, m, w);
     let f = c.inverse(md);
-    rows::scale_row(r, i, m, w, f, md);
-    rows::scale_row(u, i, n, n * w, f, md);
-    rows::scale_column(v, n, w, i, c, md);
+    scaling::scale_row(r, i, m, w, f, md);
+    scaling::scale_row(u, i, n, n * w, f, md);
+    scaling::scale_column(v, n, w, i, c, md);
 }
 
 // Monic pivots in all rows that have one. Each keeps its place, so the lists need not change.

@@ -82,33 +82,3 @@ pub record LinePair (p reciprocal c e n w top x y : ℕ) (from : ℕ → ℕ →
 pub record Square (n w : ℕ) (b : List ℕ) : Type 0 where
   pub some : 0 < w
   pub size : length b ≡ n * (n * w)
-
--- two parts of one buffer, of `size` places each, that have no place in common
-pub record TwoParts (size one other : ℕ) (b : List ℕ) : Type 0 where
-  pub one-fits : one + size ≤ length b
-  pub other-fits : other + size ≤ length b
-  pub apart : (t u : ℕ) → t < size → u < size → one + t ≢ other + u
-
--- two rows of m cells in one buffer
-pub record TwoRows (m w i j : ℕ) (b : List ℕ) : Type 0 where
-  pub i-fits : i * (m * w) + m * w ≤ length b
-  pub j-fits : j * (m * w) + m * w ≤ length b
-  pub differ : i ≢ j
-
--- two columns of an n by n matrix
-pub record TwoColumns (n w x y : ℕ) (b : List ℕ) : Type 0 where
-  pub size : length b ≡ n * (n * w)
-  pub x-fits : x < n
-  pub y-fits : y < n
-  pub differ : x ≢ y
-
--- a part of a buffer, and a modulus by which remainders can be taken
-pub record PartToScale (p reciprocal size start : ℕ) (b : List ℕ) : Type 0 where
-  pub ready : Ready p reciprocal
-  pub fits : start + size ≤ length b
-
--- the same for a column of an n by n matrix
-pub record ColumnToScale (p reciprocal n w x : ℕ) (b : List ℕ) : Type 0 where
-  pub ready : Ready p reciprocal
-  pub size : length b ≡ n * (n * w)
-  pub x-fits : x < n

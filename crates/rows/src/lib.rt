@@ -10,14 +10,6 @@ use poly::Modulus;
 use poly::Residue;
 use poly::polynomial;
 
-mod exchange;
-mod scale;
-
-pub use exchange::exchange_columns;
-pub use exchange::exchange_rows;
-pub use scale::scale_column;
-pub use scale::scale_row;
-
 // c·x^e times a row is added to another, which lies apart from it. Only the lowest `top` places of a cell are read:
 // the caller knows that the others are zero, and time goes with the places that are read.
 fn add_to_row(

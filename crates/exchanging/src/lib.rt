@@ -1,6 +1,6 @@
 // Two rows or two columns change places, in place: no room is lent, for a number at a time is enough.
 ghost use Rattle.buffers.specs.Exchanged.{CellExchanged, RowsExchanged, ColumnsExchanged};
-ghost use Rattle.rows.specs.Asked.{TwoParts, TwoRows, TwoColumns};
+ghost use Rattle.exchanging.specs.Asked.{TwoParts, TwoRows, TwoColumns};
 
 // Two parts of one buffer, place by place: they cannot both be lent at once.
 fn exchange_parts(buf: &mut [u16], one: usize, other: usize, size: usize)

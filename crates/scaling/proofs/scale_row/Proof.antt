@@ -6,8 +6,8 @@ use Rattle.lists.proofs.Grid.{within}
 use Rattle.buffers.specs.Place.{inRow}
 use Rattle.buffers.specs.Scaled.{CellScaled, RowScaled}
 use Rattle.buffers.proofs.Place.{row-outside}
-use Rattle.rows.proofs.scale.scale_row.Statement.{statement}
-use Rattle.rows.proofs.scale.scale_row.Tie as tie
+use Rattle.scaling.proofs.scale_row.Statement.{statement}
+use Rattle.scaling.proofs.scale_row.Tie as tie
 
 -- the row was one cell of m * w places
 scaled : (p m w c i : ℕ) (b b′ : List ℕ) → CellScaled p c (m * w) (i * (m * w)) b b′ → RowScaled p m w c i b b′

@@ -6,11 +6,11 @@ use Prim.Native.Nat.{ℕ, _+_, _*_, _-_, _%_, _≤_, _<_}
 use native.Mathlib.Nat as N
 use Rattle.buffers.specs.Place.{place}
 use Rattle.buffers.specs.Scaled.{CellsScaled, CellScaled}
-use Rattle.rows.specs.Asked.{PartToScale, ColumnToScale}
+use Rattle.scaling.specs.Asked.{PartToScale, ColumnToScale}
 use Rattle.rows.proofs.Lines.{cell-ends, cells-apart}
 use Rattle.rows.proofs.Written.{none-written, written-as, next-kept, next-written}
-use Rattle.rows.proofs.scale.scale_column.Statement.{statement}
-use Rattle.rows.proofs.scale.scale_column.Tie as tie
+use Rattle.scaling.proofs.scale_column.Statement.{statement}
+use Rattle.scaling.proofs.scale_column.Tie as tie
 
 -- one turn: the cell in row i
 module _ (p reciprocal c n w x : ℕ) (v₀ v : List ℕ) (pre : ColumnToScale p reciprocal n w x v₀) (i : ℕ)

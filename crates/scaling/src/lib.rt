@@ -1,7 +1,7 @@
 // A row or a column is multiplied by a residue, in place.
 ghost use Prim.Native.Nat.{_*_};
 ghost use Rattle.buffers.specs.Scaled.{CellScaled, RowScaled, ColumnScaled};
-ghost use Rattle.rows.specs.Asked.{PartToScale, ColumnToScale};
+ghost use Rattle.scaling.specs.Asked.{PartToScale, ColumnToScale};
 use poly::Modulus;
 use poly::Residue;
 use poly::polynomial;

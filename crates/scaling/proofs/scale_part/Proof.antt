@@ -6,9 +6,9 @@ use native.Mathlib.Nat.{add-sub-cancel-left}
 use lib.ListN.{length, take, drop}
 use Rattle.poly.specs.Polynomial.{scaledBy}
 use Rattle.buffers.specs.Scaled.{CellScaled}
 use Rattle.rows.proofs.Written.{cell-changed}
-use Rattle.rows.proofs.scale.scale_part.Statement.{statement}
-use Rattle.rows.proofs.scale.scale_part.Tie as tie
+use Rattle.scaling.proofs.scale_part.Statement.{statement}
+use Rattle.scaling.proofs.scale_part.Tie as tie
 
 back : (p c size start : ℕ) (b new : List ℕ) → start + size ≤ length b → new ≡ scaledBy p c (take (start + size - start) (drop start b))
     → CellScaled p c size start b (take start b ++ (new ++ drop (start + size - start) (drop start b)))

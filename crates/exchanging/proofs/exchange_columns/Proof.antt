@@ -8,10 +8,10 @@ use Rattle.algebra.proofs.Cases.{case-le}
 use Rattle.buffers.specs.Place.{place}
 use Rattle.buffers.specs.Exchanged.{CellsExchanged}
 use Rattle.buffers.proofs.Place.{place-own}
-use Rattle.rows.specs.Asked.{TwoParts, TwoColumns}
+use Rattle.exchanging.specs.Asked.{TwoParts, TwoColumns}
 use Rattle.rows.proofs.Lines.{cell-ends, cells-apart}
-use Rattle.rows.proofs.exchange.exchange_columns.Statement.{statement}
-use Rattle.rows.proofs.exchange.exchange_columns.Tie as tie
+use Rattle.exchanging.proofs.exchange_columns.Statement.{statement}
+use Rattle.exchanging.proofs.exchange_columns.Tie as tie
 
 -- one turn: the cells in row i
 module _ (n w x y : ℕ) (v₀ v : List ℕ) (pre : TwoColumns n w x y v₀) (i : ℕ)

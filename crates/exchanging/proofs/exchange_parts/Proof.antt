@@ -7,9 +7,9 @@ use lib.ListN.{length, getD, set, length-set}
 use lib.Seq.{getD-set-same, getD-set-other}
 use Rattle.algebra.proofs.Cases.{case-le}
 use Rattle.buffers.specs.Exchanged.{CellExchanged}
-use Rattle.rows.specs.Asked.{TwoParts}
-use Rattle.rows.proofs.exchange.exchange_parts.Statement.{statement}
-use Rattle.rows.proofs.exchange.exchange_parts.Tie as tie
+use Rattle.exchanging.specs.Asked.{TwoParts}
+use Rattle.exchanging.proofs.exchange_parts.Statement.{statement}
+use Rattle.exchanging.proofs.exchange_parts.Tie as tie
 
 -- one turn: the numbers at t of both parts change places
 module _ (size one other : ℕ) (b₀ b : List ℕ) (pre : TwoParts size one other b₀) (t : ℕ)

@@ -6,9 +6,9 @@ use Rattle.lists.proofs.Grid.{within}
 use Rattle.buffers.specs.Place.{inRow}
 use Rattle.buffers.specs.Exchanged.{CellExchanged, RowsExchanged}
 use Rattle.buffers.proofs.Place.{block-own, row-outside}
-use Rattle.rows.specs.Asked.{TwoParts, TwoRows}
-use Rattle.rows.proofs.exchange.exchange_rows.Statement.{statement}
-use Rattle.rows.proofs.exchange.exchange_rows.Tie as tie
+use Rattle.exchanging.specs.Asked.{TwoParts, TwoRows}
+use Rattle.exchanging.proofs.exchange_rows.Statement.{statement}
+use Rattle.exchanging.proofs.exchange_rows.Tie as tie
 
 -- each row is one cell of m * w places
 parts : (m w i j : ℕ) (b : List ℕ) → TwoRows m w i j b → TwoParts (m * w) (i * (m * w)) (j * (m * w)) b
