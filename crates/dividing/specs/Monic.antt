@@ -6,7 +6,7 @@ use lib.ListN.{length, getD}
 use Rattle.algebra.specs.Prime.{Prime}
 use Rattle.algebra.specs.Residue.{Zp}
 use Rattle.algebra.proofs.PrimeField.{zp-field}
-use Rattle.poly.specs.Modulus.{Ready, Inverse}
+use Rattle.residues.specs.Modulus.{Ready, Inverse}
 use Rattle.poly.specs.Polynomial.{Coefficients}
 use Rattle.buffers.specs.Place.{place}
 use Rattle.buffers.specs.Scaled.{RowScaled, ColumnScaled}

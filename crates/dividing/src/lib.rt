@@ -2,7 +2,7 @@
 ghost use Rattle.dividing.specs.Monic.{RowToDivide, RowDivided, MonicAsked, MadeMonic};
 use pivots::PivotDegree;
 use pivots::PivotIndex;
-use poly::Modulus;
+use residues::Modulus;
 
 // "Divide each non-zero row by its pivot's leading coefficient; zero rows stay", for they have none. What row i of R loses,
 // column i of V takes, so that V·R = A still holds.

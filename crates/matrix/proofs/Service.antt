@@ -7,7 +7,7 @@ use native.Mathlib.Omega.{arith}
 use lib.ListN.{length, getD}
 use Rattle.algebra.specs.Prime.{Prime}
 use Rattle.lists.proofs.Total.{total-same}
-use Rattle.poly.specs.Modulus.{Ready}
+use Rattle.residues.specs.Modulus.{Ready}
 use Rattle.poly.specs.Polynomial.{Coefficients}
 use Rattle.buffers.specs.Diagonal.{Diagonal}
 use Rattle.rows.specs.Asked.{Square}

@@ -4,7 +4,7 @@ use mathlib.Core.Bool.{false}
 use mathlib.Core.List.{List, [], _∷_}
 use Prim.Native.Nat.{ℕ, _+_}
 use lib.ListN.{length, getD}
-use Rattle.poly.specs.Modulus.{Ready}
+use Rattle.residues.specs.Modulus.{Ready}
 use Rattle.refusals.specs.Answering.{Told}
 use Rattle.refusals.specs.Refused.{stepSizes, refusalTable}
 use Rattle.refusals.proofs.Answering.{answer-done, InOrder, in-order}

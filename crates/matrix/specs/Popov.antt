@@ -7,7 +7,7 @@ use lib.ListN.{length}
 use Rattle.algebra.specs.Prime.{Prime}
 use Rattle.algebra.specs.Residue.{Zp}
 use Rattle.algebra.proofs.PrimeField.{zp-field}
-use Rattle.poly.specs.Modulus.{Ready}
+use Rattle.residues.specs.Modulus.{Ready}
 use Rattle.poly.specs.Polynomial.{Coefficients}
 use Rattle.buffers.specs.Held.{matrixOf}
 use Rattle.buffers.proofs.Place.{by-rows}

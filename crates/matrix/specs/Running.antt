@@ -4,7 +4,7 @@ use mathlib.Core.List.{List}
 use Prim.Native.Nat.{ℕ, _*_, _≤_, _<_}
 use lib.ListN.{length, getD}
 use Rattle.algebra.specs.Prime.{Prime}
-use Rattle.poly.specs.Modulus.{Ready}
+use Rattle.residues.specs.Modulus.{Ready}
 use Rattle.poly.specs.Polynomial.{Coefficients}
 use Rattle.buffers.specs.Diagonal.{Diagonal}
 use Rattle.reduction.specs.Pivot.{index}

@@ -6,10 +6,10 @@ use crate::scratch;
 use pivots::Next;
 use pivots::PivotDegree;
 use pivots::pivot;
-use poly::Modulus;
 use poly::polynomial;
 use refusals::Check;
 use refusals::Refusal;
+use residues::Modulus;
 
 pub enum Answer {
     NotDone(Refusal),

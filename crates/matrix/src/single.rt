@@ -4,10 +4,10 @@ ghost use Rattle.matrix.specs.Single.{Stepped, StepAnswered};
 use crate::scratch;
 use pivots::Next;
 use pivots::pivot;
-use poly::Modulus;
 use poly::polynomial;
 use refusals::Check;
 use refusals::Refusal;
+use residues::Modulus;
 
 pub enum StepAnswer {
     NotDone(Refusal),

@@ -7,13 +7,9 @@ use native.Mathlib.Omega.{arith}
 use lib.ListN.{length}
 use Rattle.lists.specs.Change.{imap}
 use Rattle.lists.proofs.Change.{getD-past, length-imap, getD-imap}
-use Rattle.poly.specs.Modulus.{Accepted, InRange, Ready}
+use Rattle.residues.specs.Modulus.{Ready}
 use Rattle.poly.specs.Polynomial.{Coefficients, shifted, plusMultiple, Multiple, Product, scaledBy}
 use Rattle.poly.proofs.Places.{product-past}
-
--- a modulus that was accepted may be made ready
-pub in-range : {p : ℕ} → Accepted p → InRange p
-in-range a = record { two = a .prime .two; most = a .most }
 
 -- what is a remainder at every place is made of residues
 remainders : (p : ℕ) (g : ℕ → ℕ → ℕ) (l : List ℕ) → 0 < p → Coefficients p (imap (λ i x. g i x % p) l)

@@ -23,7 +23,7 @@ use Rattle.lists.specs.Total.{total}
 use Rattle.lists.proofs.Change.{getD-imap-every, getD-past}
 use Rattle.lists.proofs.Last.{IsLast, last-is}
 use Rattle.poly.proofs.Ending.{ends-height}
-use Rattle.poly.specs.Modulus.{Inverse}
+use Rattle.residues.specs.Modulus.{Inverse}
 use Rattle.poly.specs.Polynomial.{Coefficients, height, degreeOf, leadingOf, shifted, plusMultiple, Multiple, productAt, productOf, Product, scaledBy, zeros, SamePolynomial}
 use Rattle.poly.specs.Reading.{Holds}
 

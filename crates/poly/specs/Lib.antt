@@ -1,3 +1,2 @@
-pub mod Modulus
 pub mod Polynomial
 pub mod Reading

@@ -9,7 +9,7 @@ use lib.Dec.{leb}
 use Rattle.lists.specs.Change.{imap}
 use Rattle.lists.specs.Last.{lastNonzero}
 use Rattle.lists.specs.Total.{total}
-use Rattle.poly.specs.Modulus.{Ready}
+use Rattle.residues.specs.Modulus.{Ready}
 
 -- "Coefficients are 16-bit numbers below p."
 pub record Coefficients (p : ℕ) (l : List ℕ) : Type 0 where

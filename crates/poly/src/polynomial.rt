@@ -5,10 +5,10 @@ ghost use mathlib.Core.Logic.{_↔_};
 ghost use Prim.Native.Nat.{ℕ, _+_, _*_, _-_, _%_, _<_, _≤_};
 ghost use lib.ListN.{length, getD};
 ghost use Rattle.lists.specs.Change.{imap};
-ghost use Rattle.poly.specs.Modulus.{Ready};
+ghost use Rattle.residues.specs.Modulus.{Ready};
 ghost use Rattle.poly.specs.Polynomial.{degreeOf, height, leadingOf, plusTimes, Scaling, plusMultiple, Multiple, productAt, productOf, Product, scaledBy, zeros, SamePolynomial};
-use crate::residue::Modulus;
-use crate::residue::Residue;
+use residues::Modulus;
+use residues::Residue;
 
 // The degree of a polynomial, -1 for zero.
 pub struct Degree(pub i64);

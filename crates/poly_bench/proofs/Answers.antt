@@ -4,7 +4,7 @@ use mathlib.Core.Bool.{true, false}
 use mathlib.Core.List.{List}
 use Prim.Native.Nat.{ℕ, _+_, _≤_}
 use lib.ListN.{length}
-use Rattle.poly.specs.Modulus.{Accepted}
+use Rattle.residues.specs.Modulus.{Accepted}
 use Rattle.poly.specs.Polynomial.{productOf}
 use Rattle.algebra.proofs.Flag.{true-false, says-yes, says-no}
 use Rattle.poly_bench.specs.Rounds.{repeated, Summed, Added, Multiplied}

@@ -5,7 +5,7 @@ use mathlib.Core.Bool.{Bool, true, false}
 use mathlib.Core.List.{List}
 use mathlib.Core.Logic.{_↔_}
 use lib.ListN.{length}
-use Rattle.poly.specs.Modulus.{Accepted}
+use Rattle.residues.specs.Modulus.{Accepted}
 use Rattle.poly.specs.Polynomial.{plusMultiple, productOf, scaledBy}
 
 -- g applied n times

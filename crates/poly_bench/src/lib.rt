@@ -1,11 +1,11 @@
 // The row operation and the product, many rounds of each, for a C program to time (bench/poly.c).
-use poly::Modulus;
-use poly::Residue;
 use poly::polynomial;
+use residues::Modulus;
+use residues::Residue;
 ghost use mathlib.Core.Path.{_≡_};
 ghost use Prim.Native.Nat.{_+_, _<_, _≤_};
 ghost use lib.ListN.{length};
-ghost use Rattle.poly.specs.Modulus.{Ready};
+ghost use Rattle.residues.specs.Modulus.{Ready};
 ghost use Rattle.poly.specs.Polynomial.{Coefficients, plusMultiple, Product, productOf};
 ghost use Rattle.poly_bench.specs.Rounds.{repeated, Summed, Added, Multiplied};
 

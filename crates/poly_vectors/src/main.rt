@@ -2,14 +2,14 @@
 // should print; expected.py, which shares no code with `poly`, works it out.
 use libc::STDOUT_FILENO;
 use poly::Degree;
-use poly::Modulus;
-use poly::Residue;
 use poly::polynomial;
+use residues::Modulus;
+use residues::Residue;
 ghost use mathlib.Core.Path.{_≡_};
 ghost use Prim.Native.Nat.{_<_, _≤_};
 ghost use lib.ListN.{length};
 ghost use Rattle.algebra.specs.Prime.{Prime};
-ghost use Rattle.poly.specs.Modulus.{Accepted, Ready};
+ghost use Rattle.residues.specs.Modulus.{Accepted, Ready};
 ghost use Rattle.poly.specs.Polynomial.{Coefficients};
 
 fn say(label: &[u8], n: u64) {
@@ -153,7 +153,7 @@ fn say_scaled(c: u32, seed: u32, m: Modulus)
 // Whether p is taken, and if so what is worked out by it.
 fn say_modulus(p: u32) {
     say(b"modulus ", p as u64);
-    say_flag(b" prime ", poly::is_prime(p));
+    say_flag(b" prime ", residues::is_prime(p));
     say_flag(b" accepted ", Modulus::accepts(p));
     end_line();
     if Modulus::accepts(p) {

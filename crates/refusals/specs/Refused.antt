@@ -5,7 +5,7 @@ use mathlib.Core.Logic.{_≢_}
 use mathlib.Core.List.{List, [], _∷_}
 use Prim.Native.Nat.{ℕ, _+_, _*_, _≤_, _<_}
 use lib.ListN.{length, getD}
-use Rattle.poly.specs.Modulus.{Accepted}
+use Rattle.residues.specs.Modulus.{Accepted}
 use Rattle.poly.specs.Polynomial.{Coefficients}
 use Rattle.refusals.specs.Answering.{Row, Told}
 use Rattle.refusals.specs.Number.{checkNumber, checkPlace}

@@ -8,7 +8,7 @@ ghost use mathlib.Core.List.{[], _∷_};
 ghost use lib.ListN.{length};
 ghost use Rattle.refusals.specs.Refused.{Verdict, FirstHigh, reductionSizes, stepSizes};
 ghost use Rattle.refusals.specs.Part.{OfNumbers, OfMatrix, OfCoefficients};
-use poly::Modulus;
+use residues::Modulus;
 
 pub enum Refusal {
     Modulus,

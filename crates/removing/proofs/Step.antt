@@ -21,7 +21,7 @@ use Rattle.popov.proofs.Ascending.{Tidy}
 use Rattle.popov.proofs.Carrying.{Carries, removed-carries}
 use Rattle.popov.proofs.Removing.{Removed}
 use Rattle.popov.proofs.SecondStep.{zero-excess, k-some, removed-row, values-kept, tidy-step, excesses-kept, left-falls}
-use Rattle.poly.specs.Modulus.{Ready}
+use Rattle.residues.specs.Modulus.{Ready}
 use Rattle.pivots.specs.Pivot.{valuesOf, Pivots}
 use Rattle.stepping.specs.Holding.{Holding}
 use Rattle.stepping.specs.Move.{Divided}

@@ -12,7 +12,7 @@ use Rattle.reduction.specs.Step.{Carried}
 use Rattle.popov.specs.SecondRun.{SecondRuns}
 use Rattle.popov.proofs.Ascending.{Tidy}
 use Rattle.popov.proofs.Carrying.{Carries}
-use Rattle.poly.specs.Modulus.{Ready}
+use Rattle.residues.specs.Modulus.{Ready}
 use Rattle.pivots.specs.Pivot.{valuesOf, Pivots}
 use Rattle.stepping.specs.Holding.{Holding}
 use Rattle.stepping.specs.Move.{coefficientAt, leadingAt, Moved}

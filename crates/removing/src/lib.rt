@@ -6,8 +6,8 @@ ghost use Rattle.removing.specs.Excess.{excessOf, excessAt, HighestAsked
 ghost use Rattle.removing.specs.Removing.{RemoveAsked, SecondMove, RemovingAsked, ClearAsked, Cleared, RemovedAll};
 use pivots::PivotDegree;
 use pivots::PivotIndex;
-use poly::Modulus;
 use poly::polynomial;
+use residues::Modulus;
 use stepping::Ranges;
 
 // The row that is subtracted next, and the excess over it; 0 where no row has any.

@@ -6,9 +6,9 @@ ghost use Rattle.buffers.specs.Place.{inRow, place};
 ghost use Rattle.buffers.specs.Added.{CellsAdded, CellAdded, RowAdded, ColumnAdded};
 ghost use Rattle.buffers.specs.Diagonal.{Diagonal};
 ghost use Rattle.rows.specs.Asked.{spaced, Aside, RowPair, RowsInBuffer, CellPair, CellPairs, LinePair, Square};
-use poly::Modulus;
-use poly::Residue;
 use poly::polynomial;
+use residues::Modulus;
+use residues::Residue;
 
 // c·x^e times a row is added to another, which lies apart from it. Only the lowest `top` places of a cell are read:
 // the caller knows that the others are zero, and time goes with the places that are read.

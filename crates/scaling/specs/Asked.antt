@@ -3,7 +3,7 @@ use mathlib.Core.Path.{_≡_}
 use mathlib.Core.List.{List}
 use Prim.Native.Nat.{ℕ, _+_, _*_, _≤_, _<_}
 use lib.ListN.{length}
-use Rattle.poly.specs.Modulus.{Ready}
+use Rattle.residues.specs.Modulus.{Ready}
 
 -- a part of a buffer, and a modulus by which remainders can be taken
 pub record PartToScale (p reciprocal size start : ℕ) (b : List ℕ) : Type 0 where

@@ -2,9 +2,9 @@
 ghost use Prim.Native.Nat.{_*_};
 ghost use Rattle.buffers.specs.Scaled.{CellScaled, RowScaled, ColumnScaled};
 ghost use Rattle.scaling.specs.Asked.{PartToScale, ColumnToScale};
-use poly::Modulus;
-use poly::Residue;
 use poly::polynomial;
+use residues::Modulus;
+use residues::Residue;
 
 // A part of the buffer is lent on: every coefficient is multiplied alike, so a row is as good as a polynomial.
 fn scale_part(buf: &mut [u16], start: usize, size: usize, c: Residue, md: Modulus)

@@ -4,7 +4,7 @@ use Prim.Native.Nat.{ℕ, _+_, _-_, _*_, _%_, _<_}
 use native.Mathlib.Nat.{mul-assoc, mul-comm, mul-one, mod-lt, mod-eq-of-lt, zero-add}
 use native.Mathlib.Omega.{arith}
 use Rattle.algebra.proofs.Residue.{mul-mod-left, mul-mod-right}
-use Rattle.poly.specs.Modulus.{Inverse}
+use Rattle.residues.specs.Modulus.{Inverse}
 use Rattle.stepping.specs.Move.{Divided}
 
 pub divided : (p a b r c f e : ℕ) → a < p → Inverse p b r → c ≡ a * r % p → f ≡ (0 + (p - c)) % p → Divided p a b e e c f

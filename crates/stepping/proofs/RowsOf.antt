@@ -10,7 +10,7 @@ use native.Mathlib.Omega.{arith}
 use lib.ListN.{length, getD}
 use lib.Seq.{ext-getD, getD-set-same, getD-set-other}
 use Rattle.algebra.specs.Prime.{Prime}
-use Rattle.poly.specs.Modulus.{Ready}
+use Rattle.residues.specs.Modulus.{Ready}
 use Rattle.poly.specs.Polynomial.{Coefficients}
 use Rattle.lists.proofs.Last.{last-is}
 use Rattle.lists.proofs.Part.{length-part, getD-part}

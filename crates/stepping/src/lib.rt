@@ -5,8 +5,8 @@ ghost use Rattle.stepping.specs.Move.{coefficientAt, Divided, Factor, Su
 use pivots::Pivot;
 use pivots::PivotDegree;
 use pivots::PivotIndex;
-use poly::Modulus;
-use poly::Residue;
+use residues::Modulus;
+use residues::Residue;
 
 // c·x^e is taken from row l times row k; f is -c, so that the rows are only ever added to.
 pub struct Move {

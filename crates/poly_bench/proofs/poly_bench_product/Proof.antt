@@ -3,8 +3,9 @@ use borrow.Author.Needs.{needs}
 use borrow.Author.Tests.{not-true, not-false}
 use Rattle.algebra.proofs.Flag.{denied}
 use Rattle.poly_bench.proofs.Answers.{product-refused, product-done}
-use Rattle.poly.specs.Modulus.{Accepted}
-use Rattle.poly.proofs.Asked.{in-range, product-room}
+use Rattle.residues.specs.Modulus.{Accepted}
+use Rattle.residues.proofs.Range.{in-range}
+use Rattle.poly.proofs.Asked.{product-room}
 use Rattle.poly_bench.proofs.poly_bench_product.Statement.{statement}
 use Rattle.poly_bench.proofs.poly_bench_product.Tie as tie
 

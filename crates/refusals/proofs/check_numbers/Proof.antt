@@ -5,7 +5,7 @@ use mathlib.Core.Logic.{inl, inr}
 use borrow.Author.Tests.{not-true, not-false}
 use Rattle.algebra.proofs.Flag.{denied}
 use Prim.Native.Nat.{_≤_}
-use Rattle.poly.specs.Modulus.{Accepted}
+use Rattle.residues.specs.Modulus.{Accepted}
 use Rattle.refusals.specs.Refused.{InShape}
 use Rattle.refusals.proofs.check_numbers.Statement.{statement}
 use Rattle.refusals.proofs.check_numbers.Tie as tie

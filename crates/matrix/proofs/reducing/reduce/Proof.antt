@@ -2,7 +2,7 @@ use native.Mathlib.Omega.{arith}
 use mathlib.Core.Path.{subst}
 use mathlib.Core.Bool.{false}
 use denote.Ref.{now}
-use Rattle.poly.proofs.Asked.{in-range}
+use Rattle.residues.proofs.Range.{in-range}
 use Rattle.refusals.specs.Refused.{Verdict}
 use Rattle.refusals.proofs.Verdicts.{cell-few}
 use Rattle.refusals.proofs.Answering.{answer-refused}

@@ -1,7 +1,7 @@
 use native.Mathlib.Omega.{arith}
 use borrow.Author.Needs.{needs}
 use Prim.Native.Nat.{_*_, _≤_}
-use Rattle.poly.proofs.Width.{product-most}
+use Rattle.residues.proofs.Width.{product-most}
 use Rattle.poly.proofs.polynomial.plus_product.Statement.{statement}
 use Rattle.poly.proofs.polynomial.plus_product.Tie as tie
 

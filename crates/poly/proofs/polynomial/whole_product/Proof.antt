@@ -1,6 +1,6 @@
 use native.Mathlib.Omega.{arith}
 use mathlib.Core.Path.{refl}
-use Rattle.poly.proofs.Width.{product-most}
+use Rattle.residues.proofs.Width.{product-most}
 use Rattle.poly.proofs.polynomial.whole_product.Statement.{statement}
 use Rattle.poly.proofs.polynomial.whole_product.Tie as tie
 

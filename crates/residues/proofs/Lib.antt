@@ -1,0 +1,5 @@
+pub mod Width
+pub mod Range
+pub mod Reciprocal
+pub mod Inverting
+pub mod Trial
