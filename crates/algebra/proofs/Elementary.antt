@@ -27,6 +27,10 @@ module _ {F : Type 0} (R : CommRing F) where
       go (yes e) = rw (e, setrow-same, identity-same) (simp ring)
       go (no ne) = rw (identity-other R i l ne) (ap (λ f. f j) (setrow-other A l _ i ne) ∙ simp ring)
 
+  -- a column follows the rows
+  pub addrow-column : (A : Mat F) (l k : ℕ) (c : F) (m i j : ℕ) → addrow R (λ i _. A i m) l k c i j ≡ addrow R A l k c i m
+  addrow-column A l k c m i j = addrow-at (λ i _. A i m) l k c i j ∙ sym (addrow-at A l k c i m)
+
   pub addrow-product : (n m : ℕ) (A : Mat F) (l k : ℕ) (c : F) → k < n → Same n m (product R n (addrow R I l k c) A) (addrow R A l k c)
   unfolding product
   addrow-product n m A l k c lk i j li lj =

@@ -4,3 +4,4 @@ pub mod Last
 pub mod Total
 pub mod Grid
 pub mod Permutation
+pub mod Skip

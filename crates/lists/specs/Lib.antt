@@ -2,3 +2,4 @@ pub mod Change
 pub mod Part
 pub mod Last
 pub mod Total
+pub mod Skip

@@ -75,7 +75,12 @@ module _ {F : Type 0} (K : Field F) (n m size : ℕ) (A : ℕ → Row F) where
       record {
         transformed = subtract-transformed (K .ring) n m A (t .R) (t .U) (t .V′) k i _ (_, w .degree .below)
             (p .fits) fits (omega (arith, p .highest .fits)) (x .transformed);
-        narrow = narrow-carry K n m size A t k i _ _ (p .fits) fits (w .degree .below)
-            (omega (arith, w .room, height-some m _ (y .ascends .some k some), height-some m _ (y .ascends .some i (omega (arith, p .highest .fits)))))
-            (omega (arith, ap (height m) (values-kept K n m size r columns (t .R) y p k))) (x .narrow);
+        narrow = narrow-carry K n m size A t k i _ (record {
+          e = _;
+          l-fits = p .fits;
+          k-fits = fits;
+          below = w .degree .below;
+          room = omega (arith, w .room, height-some m _ (y .ascends .some k some), height-some m _ (y .ascends .some i (omega (arith, p .highest .fits))));
+          lower = omega (arith, ap (height m) (values-kept K n m size r columns (t .R) y p k));
+        }) (x .narrow);
       }

@@ -17,7 +17,7 @@ use Rattle.lattice.specs.PolynomialMatrix.{AllBounded}
 use Rattle.lattice.proofs.Coefficients.{below-more, below-zero, below-identity}
 use Rattle.lists.specs.Total.{total}
 use Rattle.reduction.specs.Pivot.{value, height}
-use Rattle.reduction.specs.Step.{Carried, begin, carry, advance}
+use Rattle.reduction.specs.Step.{Carried, begin, factor, subtract, carry, advance}
 use Rattle.reduction.specs.Run.{Runs}
 use Rattle.lists.proofs.Total.{total-le, total-one, total-others, total-change}
 use Rattle.reduction.proofs.Index.{height-pos, height-mono, height-bound, clash-second}
@@ -70,62 +70,82 @@ module _ {F : Type 0} (K : Field F) (n m size : ℕ) where
   widened : (a s s′ c : ℕ) → s ≤ s′ → suc (a + s) - c ≤ suc (a + s′) - c
   widened a s s′ c h = omega arith
 
-  -- q times row k is taken from row l, where q has no degree above e and x^e times row k is no higher than row l
-  module _ (A : ℕ → Row F) (t : Carried F) (l k : ℕ) (q : ℕ → F) (e : ℕ) (ll : l < n) (lk : k < n)
-      (qb : Below (K .ring) q (suc e)) (he : e + D (t .R) k ≤ D (t .R) l)
-      (lower : D (carry (K .ring) l k q t .R) l ≤ D (t .R) l) (x : Narrow A t) where
-    abbrev t′ : Carried F
-    t′ = carry (K .ring) l k q t
+  -- q times row k is taken from row l of M: q has no degree above e, x^e times row k is no higher than row l, and row l gets no higher
+  pub record NoHigher (M : ℕ → Row F) (l k : ℕ) (q : ℕ → F) : Type 0 where
+    pub e : ℕ
+    pub l-fits : l < n
+    pub k-fits : k < n
+    pub below : Below (K .ring) q (suc e)
+    pub room : e + D M k ≤ D M l
+    pub lower : D (subtract (K .ring) l k q M) l ≤ D M l
 
-    others : (i : ℕ) → i ≢ l → D (t′ .R) i ≡ D (t .R) i
-    others i ne = ap (λ r. height m (value K m size r) - 1) (setrow-other (t .R) l _ i ne)
+  module _ {M : ℕ → Row F} {l k : ℕ} {q : ℕ → F} (y : NoHigher M l k q) where
+    abbrev M′ : ℕ → Row F
+    M′ = subtract (K .ring) l k q M
 
-    falls : (i : ℕ) → D (t′ .R) i ≤ D (t .R) i
-    falls i = elim (ℕ-discrete i l) [ yes w ↦ rw w lower | no ne ↦ omega (arith, others i ne) ]
+    others : (i : ℕ) → i ≢ l → D M′ i ≡ D M i
+    others i ne = ap (λ r. height m (value K m size r) - 1) (setrow-other M l _ i ne)
 
-    totals : total n (D (t′ .R)) ≤ total n (D (t .R))
-    totals = total-le n (D (t′ .R)) (D (t .R)) (λ i _. falls i)
+    falls : (i : ℕ) → D M′ i ≤ D M i
+    falls i = elim (ℕ-discrete i l) [ yes w ↦ rw w (y .lower) | no ne ↦ omega (arith, others i ne) ]
 
-    change : total n (D (t′ .R)) + D (t .R) l ≡ total n (D (t .R)) + D (t′ .R) l
-    change = total-change n l (D (t′ .R)) (D (t .R)) ll (λ i _ ne. others i ne)
+    pub totals-fall : total n (D M′) ≤ total n (D M)
+    totals-fall = total-le n (D M′) (D M) (λ i _. falls i)
 
-    -- what row l loses, all rows have lost
-    same : D (t′ .R) l + spent-since A t′ ≡ D (t .R) l + spent-since A t
-    same = omega (arith, change, totals, x .less)
+    change : total n (D M′) + D M l ≡ total n (D M) + D M′ l
+    change = total-change n l (D M′) (D M) (y .l-fits) (λ i _ ne. others i ne)
 
-    grows : spent-since A t ≤ spent-since A t′
-    grows = omega (arith, totals)
+    -- what row l loses, all rows have lost, of a number E that they had together at most
+    module _ (E : ℕ) (less : total n (D M) ≤ E) where
+      same : D M′ l + (E - total n (D M′)) ≡ D M l + (E - total n (D M))
+      same = omega (arith, change, totals-fall)
 
-    u-own : (j : ℕ) → j < n → Below (K .ring) (t′ .U l j) (suc (D (t′ .R) l + spent-since A t′) - D A j)
-    u-own j lj = rw (same, setrow-same (t .U) l _) (below-add (K .ring) _ _ _ (x .u-bound l j ll lj)
-        (below-mul-within (K .ring) _ (t .U k j) e _ _ (below-neg (K .ring) q _ qb) (x .u-bound k j lk lj) (raised e _ _ (spent-since A t) (D A j) he)))
+      grows : E - total n (D M) ≤ E - total n (D M′)
+      grows = omega (arith, totals-fall)
 
-    v-own : (i : ℕ) → i < n → Below (K .ring) (t′ .V′ i k) (suc (D A i) - D (t .R) k)
-    v-own i li = rw setrow-same (below-add (K .ring) _ _ _ (x .v-bound i k li lk)
-        (below-mul-within (K .ring) q (t .V′ i l) e _ _ qb (x .v-bound i l li ll) (λ some. omega arith)))
+      -- a column of a matrix that follows: its degree in row i is at most D_i and what all have lost, less c
+      pub column-kept : (X : ℕ → Row F) (j c : ℕ) → ((i : ℕ) → i < n → Below (K .ring) (X i j) (suc (D M i + (E - total n (D M))) - c))
+          → (i : ℕ) → i < n → Below (K .ring) (subtract (K .ring) l k q X i j) (suc (D M′ i + (E - total n (D M′))) - c)
+      column-kept X j c h i li = elim (ℕ-discrete i l) [
+        | yes w ↦ rw (w, same, setrow-same X l _) (below-add (K .ring) _ _ _ (h l (y .l-fits))
+            (below-mul-within (K .ring) _ (X k j) (y .e) _ _ (below-neg (K .ring) q _ (y .below)) (h k (y .k-fits))
+            (raised (y .e) _ _ (E - total n (D M)) c (y .room))))
+        | no ne ↦ rw (setrow-other X l _ i ne, others i ne) (below-more (K .ring) (X i j) _ _ (widened (D M i) _ _ c grows) (h i li))
+      ]
 
-    pub narrow-carry : Narrow A t′
-    narrow-carry = record {
-      less = omega (arith, x .less, totals);
-      u-bound = λ i j li lj. elim (ℕ-discrete i l) [
-        | yes w ↦ rw w (u-own j lj)
-        | no ne ↦ rw (setrow-other (t .U) l _ i ne, others i ne) (below-more (K .ring) (t .U i j) _ _ (widened (D (t .R) i) _ _ (D A j) grows) (x .u-bound i j li lj))
-      ];
-      v-bound = λ i j li lj. below-more (K .ring) (t′ .V′ i j) (suc (D A i) - D (t .R) j) _ (omega (arith, falls j)) (elim (ℕ-discrete j k) [
-        | yes w ↦ rw w (v-own i li)
-        | no ne ↦ rw (setrow-other (transpose (t .V′)) k _ j ne) (x .v-bound i j li lj)
-      ]);
-    }
+  -- the bounds are kept
+  pub narrow-carry : (A : ℕ → Row F) (t : Carried F) (l k : ℕ) (q : ℕ → F) → NoHigher (t .R) l k q → Narrow A t → Narrow A (carry (K .ring) l k q t)
+  narrow-carry A t l k q y x = record {
+    less = omega (arith, x .less, totals-fall y);
+    u-bound = λ i j li lj. column-kept y (total n (D A)) (x .less) (t .U) j (D A j) (λ i li. x .u-bound i j li lj) i li;
+    v-bound = λ i j li lj. below-more (K .ring) (t′ .V′ i j) (suc (D A i) - D (t .R) j) _ (omega (arith, falls y j)) (elim (ℕ-discrete j k) [
+      | yes w ↦ rw w (v-own i li)
+      | no ne ↦ rw (setrow-other (transpose (t .V′)) k _ j ne) (x .v-bound i j li lj)
+    ]);
+  }
+    where
+      t′ : Carried F
+      t′ = carry (K .ring) l k q t
+
+      v-own : (i : ℕ) → i < n → Below (K .ring) (t′ .V′ i k) (suc (D A i) - D (t .R) k)
+      v-own i li = rw setrow-same (below-add (K .ring) _ _ _ (x .v-bound i k li (y .k-fits))
+          (below-mul-within (K .ring) q (t .V′ i l) (y .e) _ _ (y .below) (x .v-bound i l li (y .l-fits)) (λ some. omega (arith, y .room))))
 
   -- a step of the reduction
+  pub step-no-higher : (M : ℕ → Row F) (l k : ℕ) → AllBounded (K .ring) n m size M → Lowered K n m size M l k
+      → NoHigher M l k (factor K m size (M l) (M k))
+  step-no-higher M l k b w = let g = w .reducing in record {
+    e = height m (value K m size (M l)) - height m (value K m size (M k));
+    l-fits = g .l-fits;
+    k-fits = g .k-fits;
+    below = factor-degree K m size (M l) (M k) (b l (g .l-fits)) (b k (g .k-fits)) (g .clash) (g .degrees) .below;
+    room = omega (arith, g .degrees, height-pos m _ (clash-second (g .clash)));
+    lower = omega (arith, height-mono m _ _ (N.le-of-lt (w .lower)));
+  }
+
   pub narrow-step : (A : ℕ → Row F) (t : Carried F) (l k : ℕ) → AllBounded (K .ring) n m size (t .R) → Lowered K n m size (t .R) l k
       → Narrow A t → Narrow A (advance K m size l k t)
-  narrow-step A t l k b w x =
-      let g = w .reducing in
-      narrow-carry A t l k _ _ (g .l-fits) (g .k-fits)
-      (factor-degree K m size (t .R l) (t .R k) (b l (g .l-fits)) (b k (g .k-fits)) (g .clash) (g .degrees) .below)
-      (let some = height-pos m _ (clash-second (g .clash)) in let o = g .degrees in omega arith)
-      (let fall : height m (value K m size (advance K m size l k t .R l)) ≤ height m (value K m size (t .R l)) = height-mono m _ _ (let o = w .lower in omega arith) in omega arith) x
+  narrow-step A t l k b w x = narrow-carry A t l k _ (step-no-higher (t .R) l k b w) x
 
   pub runs-narrow : (A : ℕ → Row F) {c : ℕ} {u : Carried F} → Runs K n m size c (begin (K .ring) A) u → AllBounded (K .ring) n m size A → Narrow A u
   runs-narrow A r b = runs-keep K n m size (Narrow A) (narrow-step A) r b (narrow-start A) .1

@@ -1,0 +1,6 @@
+pub mod Linear
+pub mod Alternating
+pub mod Expansion
+pub mod Sign
+pub mod Rows
+pub mod Stage
