@@ -151,20 +151,20 @@ module _ (p : ℕ) (P : Prime p) where
       ∙ ap₂ (λ (x y : ℕ). (x + y) % p) (total-number n t s h) (h n)
       ∙ simp (N.mod-add-mod, N.add-mod-mod)
 
+  -- the coefficient of a times b at degree k
+  pub product-number : (a b : List ℕ) (f g : ℕ → Zp p) → Holds p a f → Holds p b g → (k : ℕ) → series (K .ring) .mul f g k .val ≡ productAt a b k % p
+  unfolding productAt
+  product-number a b f g hf hg k =
+      ap (λ (x : Zp p). x .val) (mul-at (K .ring) f g k)
+      ∙ total-number (suc k) (λ i. getD a i 0 * getD b (k - i) 0) (λ i. K .ring .mul (f i) (g (k - i)))
+      (λ i. field-mul p P (f i) (g (k - i)) ∙ ap₂ (λ (x y : ℕ). x * y % p) (sym (hf .at i)) (sym (hg .at (k - i))))
+
   -- a times b, where nothing falls outside
   pub holds-product : (reciprocal : ℕ) (a b out : List ℕ) (f g : ℕ → Zp p) → Holds p a f → Holds p b g → Product p reciprocal a b out
       → Holds p (productOf p a b out) (series (K .ring) .mul f g)
-  unfolding productOf productAt
-  holds-product reciprocal a b out f g hf hg pre = record { at = λ k. at k ∙ sym (number k) }
-    where
-      number : (k : ℕ) → series (K .ring) .mul f g k .val ≡ productAt a b k % p
-      number k =
-          ap (λ (x : Zp p). x .val) (mul-at (K .ring) f g k)
-          ∙ total-number (suc k) (λ i. getD a i 0 * getD b (k - i) 0) (λ i. K .ring .mul (f i) (g (k - i)))
-          (λ i. field-mul p P (f i) (g (k - i)) ∙ ap₂ (λ (x y : ℕ). x * y % p) (sym (hf .at i)) (sym (hg .at (k - i))))
-
-      at : (k : ℕ) → getD (productOf p a b out) k 0 ≡ productAt a b k % p
-      at k = getD-imap-every _ out k (pre .room k)
+  unfolding productOf
+  holds-product reciprocal a b out f g hf hg pre =
+      record { at = λ k. getD-imap-every _ out k (pre .room k) ∙ sym (product-number a b f g hf hg k) }
 
   -- c times a
   pub holds-scaled : (c : Zp p) (a : List ℕ) (f : ℕ → Zp p) → Holds p a f → Holds p (scaledBy p (c .val) a) (series (K .ring) .mul (const (K .ring) c) f)

@@ -1,16 +1,18 @@
 -- From the parts of the checks to the verdict of the whole.
 use mathlib.Core.Path.{_≡_, refl, ap}
-use mathlib.Core.Bool.{Bool}
+use mathlib.Core.Bool.{Bool, true, false}
 use mathlib.Core.Logic.{_≢_, inl, inr}
 use mathlib.Core.List.{List, _∷_}
 use Prim.Native.Nat.{ℕ, zero, suc, _+_, _*_, _≤_, _<_}
-use native.Mathlib.Nat.{mul-le-mul}
+use native.Mathlib.Nat.{mul-le-mul, mul-add, mul-one}
 use native.Mathlib.Omega.{arith}
 use lib.ListN.{length, drop, getD}
 use Rattle.poly.specs.Polynomial.{Coefficients}
 use Rattle.refusals.specs.Answering.{Told}
 use Rattle.refusals.specs.Refused.{Numbers, InSquare, FirstWrong, FirstHigh, refusalTable, Verdict}
-use Rattle.refusals.specs.declared.Refusal.the-variants.{Length, Coefficient}
+use Rattle.refusals.specs.Part.{OfLengths, OfMatrix}
+use Rattle.refusals.specs.declared.Refusal.the-variants.{Square, Length, Coefficient}
+use Rattle.refusals.specs.declared.Check.{Check}
 use Rattle.refusals.specs.declared.Check.the-variants.{Fine, Refused}
 
 -- the first buffer is wrong, or it is right and the first wrong one comes later
@@ -50,7 +52,17 @@ module _ (determinant : Bool) (p n m d : ℕ) (given wanted a : List ℕ) (numbe
   pub all-right : given ≡ wanted → Coefficients p a → Verdict determinant p n m d given wanted a Fine
   all-right same residues = past-numbers 0 0 (inr (same, inr (residues, (refl, refl))))
 
--- the places of a matrix, of U and of V are few
+-- the refusal for a matrix that is not square
+pub not-square : {p n m d : ℕ} {given wanted a : List ℕ} → Numbers p n m d → n ≢ m → Verdict true p n m d given wanted a (Refused Square)
+not-square numbers differ = inr (numbers .modulus, inr (numbers .shape, inr (numbers .degree, inl (differ, refl, refl))))
+
+-- where the numbers are in range the lengths decide
+pub matrix-lengths : {p n m d : ℕ} (a r : ℕ) (c : Check) → Numbers p n m d
+    → OfLengths a (n * (m * (d + 1))) r (n * (m * (d + 1))) c → OfMatrix p n m d a r c
+matrix-lengths a r Fine numbers (input, result) = (numbers, input, result)
+matrix-lengths a r (Refused x) numbers told = λ given wanted l. told false _ _ _ _ given wanted l numbers tt
+
+-- the places of a matrix, of U, of V and of the determinant are few
 module _ (p n m d : ℕ) (h : Numbers p n m d) where
   pub row-few : m * (d + 1) ≤ 512
   row-few =
@@ -72,3 +84,6 @@ module _ (p n m d : ℕ) (h : Numbers p n m d) where
 
   pub transform-few : n * (n * (n * (d + 1))) ≤ 32768
   transform-few = let most : n * (n * (n * (d + 1))) ≤ 8 * 4096 = mul-le-mul (h .shape .rows-most) square-few in omega arith
+
+  pub determinant-few : n * d + n ≤ 512
+  determinant-few = omega (arith, cell-few, mul-add n d 1, mul-one n)

@@ -12,7 +12,13 @@ abbrev pub OfNumbers : (p n m d : ℕ) → Check → Type 0
 OfNumbers p n m d Fine = Numbers p n m d
 OfNumbers p n m d (Refused x) = (determinant : Bool) (given wanted a : List ℕ) → Verdict determinant p n m d given wanted a (Refused x)
 
--- and the lengths of input and result, where the result is a matrix and no determinant
+-- the lengths of input and result, against those that they should have
+abbrev pub OfLengths : (a places r result : ℕ) → Check → Type 0
+OfLengths a places r result Fine = (a ≡ places) × (r ≡ result)
+OfLengths a places r result (Refused x) = (determinant : Bool) (p n m d : ℕ) (given wanted l : List ℕ) → Numbers p n m d → InSquare determinant n m
+    → Verdict determinant p n m d (a ∷ r ∷ given) (places ∷ result ∷ wanted) l (Refused x)
+
+-- numbers and lengths, where the result is a matrix and no determinant
 abbrev pub OfMatrix : (p n m d a r : ℕ) → Check → Type 0
 OfMatrix p n m d a r Fine = Numbers p n m d × (a ≡ n * (m * (d + 1))) × (r ≡ n * (m * (d + 1)))
 OfMatrix p n m d a r (Refused x) = (given wanted l : List ℕ)

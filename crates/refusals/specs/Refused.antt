@@ -41,6 +41,10 @@ reductionSizes n m d = n * (m * (d + 1)) ∷ n * (m * (d + 1)) ∷ n * (n * (n *
 abbrev pub stepSizes : ℕ → ℕ → ℕ → List ℕ
 stepSizes n m d = n * (m * (d + 1)) ∷ n * (m * (d + 1)) ∷ []
 
+-- "for the determinant, input, result", which has n·d+1 places
+abbrev pub determinantSizes : ℕ → ℕ → ℕ → List ℕ
+determinantSizes n m d = n * (m * (d + 1)) ∷ (n * d + 1) ∷ []
+
 -- buffer k, counted from 1, is the first whose length is not the one wanted
 pub record FirstWrong (given wanted : List ℕ) (k : ℕ) : Type 0 where
   pub at : ℕ

@@ -6,8 +6,8 @@ ghost use mathlib.Core.Logic.{_↔_};
 ghost use Prim.Native.Nat.{_+_, _*_, _≤_};
 ghost use mathlib.Core.List.{[], _∷_};
 ghost use lib.ListN.{length};
-ghost use Rattle.refusals.specs.Refused.{Verdict, FirstHigh, reductionSizes, stepSizes};
-ghost use Rattle.refusals.specs.Part.{OfNumbers, OfMatrix, OfCoefficients};
+ghost use Rattle.refusals.specs.Refused.{Verdict, FirstHigh, reductionSizes, stepSizes, determinantSizes};
+ghost use Rattle.refusals.specs.Part.{OfNumbers, OfLengths, OfMatrix, OfCoefficients};
 use residues::Modulus;
 
 pub enum Refusal {
@@ -74,7 +74,20 @@ fn one_to_eight(n: usize) -> bool
     n <= 8
 }
 
-// Refusals 1 to 3, and 5 for the two buffers that every service has: a places of input and r of result.
+// Refusal 5 for the two buffers that every service has: input and result have a and r places, and should have `places` and `result`.
+fn check_lengths(a: usize, places: usize, r: usize, result: usize) -> Check
+    ensures { λ c. ⌜ OfLengths a places r result c ⌝ }
+{
+    if a != places {
+        return Check::Refused(Refusal::Length(1));
+    }
+    if r != result {
+        return Check::Refused(Refusal::Length(2));
+    }
+    Check::Fine
+}
+
+// Refusals 1 to 3, and 5 for these two buffers, where the result is a matrix.
 fn check_matrix(p: u32, n: usize, m: usize, d: usize, a: usize, r: usize) -> Check
     ensures { λ c. ⌜ OfMatrix p n m d a r c ⌝ }
 {
@@ -82,13 +95,7 @@ fn check_matrix(p: u32, n: usize, m: usize, d: usize, a: usize, r: usize) -> Che
         return Check::Refused(x);
     }
     let places = n * (m * (d + 1));
-    if a != places {
-        return Check::Refused(Refusal::Length(1));
-    }
-    if r != places {
-        return Check::Refused(Refusal::Length(2));
-    }
-    Check::Fine
+    check_lengths(a, places, r, places)
 }
 
 // Refusal 6.
@@ -134,6 +141,22 @@ pub fn check_reduction(
     }
     if v != n * cell {
         return Check::Refused(Refusal::Length(4));
+    }
+    check_coefficients(a, p)
+}
+
+// The checks of the determinant, whose result has r places.
+pub fn check_determinant(p: u32, n: usize, m: usize, d: usize, a: &[u16], r: usize) -> Check
+    ensures { λ c. ⌜ Verdict true p n m d (length (now (a .entry)) ∷ r ∷ []) (determinantSizes n m d) (now (a .entry)) c ⌝ }
+{
+    if let Check::Refused(x) = check_numbers(p, n, m, d) {
+        return Check::Refused(x);
+    }
+    if n != m {
+        return Check::Refused(Refusal::Square);
+    }
+    if let Check::Refused(x) = check_lengths(a.len(), n * (m * (d + 1)), r, n * d + 1) {
+        return Check::Refused(x);
     }
     check_coefficients(a, p)
 }

@@ -61,7 +61,7 @@ module _ {p reciprocal n m w l k e c f r-top u-top v-top : ℕ} {r u v spare : L
       spare-room = omega (arith, move .cell-room, move .v-room, one-line n w (omega (arith, move .l-fits)));
     }
 
-negative-below : {p a b d e c f : ℕ} → Divided p a b d e c f → f < p
+pub negative-below : {p a b d e c f : ℕ} → Divided p a b d e c f → f < p
 negative-below {p} {c = c} g = rw (g .f-is) (mod-lt (p - c) (omega (arith, g .c-below)))
 
 -- with the multiple that a division gives

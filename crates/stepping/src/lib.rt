@@ -95,7 +95,7 @@ pub fn subtract(
 }
 
 // The pivot of row l anew: it was of degree top - 1 at most.
-fn renew(
+pub fn renew(
     r: &[u16],
     index: &mut [usize],
     degree: &mut [usize],

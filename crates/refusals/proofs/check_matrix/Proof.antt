@@ -4,7 +4,7 @@ use mathlib.Core.Path.{subst}
 use mathlib.Core.Bool.{false}
 use Rattle.refusals.specs.Refused.{Numbers}
 use Rattle.refusals.specs.Part.{OfNumbers}
-use Rattle.refusals.proofs.Verdicts.{wrong-here, wrong-later, wrong-length, row-few, matrix-few}
+use Rattle.refusals.proofs.Verdicts.{matrix-lengths, row-few, matrix-few}
 use Rattle.refusals.proofs.check_matrix.Statement.{statement}
 use Rattle.refusals.proofs.check_matrix.Tie as tie
 
@@ -33,15 +33,13 @@ mul-places c = omega (arith, row-few _ _ _ _ (numbers c))
 mul-places-2 : tie.Need-mul-places-2
 mul-places-2 c = omega (arith, matrix-few _ _ _ _ (numbers c))
 
+check-lengths-requires : tie.Need-check-lengths-requires
+check-lengths-requires c κs = search needs
+
 returns-2 : tie.Need-returns-2
-returns-2 c = λ given wanted l. wrong-length false _ _ _ _ _ _ l (numbers (c .before)) tt 1 (wrong-here _ _ _ _ (c .if1 .taken))
-
-returns-3 : tie.Need-returns-3
-returns-3 c = λ given wanted l. wrong-length false _ _ _ _ _ _ l (numbers (c .before .before)) tt 2
-    (wrong-later _ _ 1 _ _ (c .before .if1 .left) (wrong-here _ _ _ _ (c .if2 .taken)))
-
-returns-4 : tie.Need-returns-4
-returns-4 c = (numbers (c .before .before), c .before .if1 .left, c .if2 .left)
+returns-2 c =
+    let args = c .before .before .before .before .args in
+    matrix-lengths (args .a) (args .r) (c .check-lengths .result) (numbers (c .before)) (c .check-lengths .ensures)
 
 pub check-matrix-spec : {M : Type 1} → statement M
 check-matrix-spec =
@@ -54,6 +52,5 @@ check-matrix-spec =
     add-places
     mul-places
     mul-places-2
-    returns-2
-    returns-3
-    returns-4)
+    check-lengths-requires
+    returns-2)

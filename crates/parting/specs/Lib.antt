@@ -1,0 +1,3 @@
+pub mod Stages
+pub mod Signed
+pub mod Parting

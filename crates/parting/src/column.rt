@@ -1,0 +1,51 @@
+// The last column is parted from the others, in cells that have room for what the steps make of it.
+ghost use mathlib.Core.Path.{_≡_};
+ghost use Prim.Native.Nat.{_<_};
+ghost use Rattle.lists.specs.Skip.{skip};
+ghost use Rattle.parting.specs.Parting.{CellAsked, CellFilled, PartAsked, Parted};
+use poly::polynomial;
+
+// Row s of those that are left when row k is taken out.
+fn skip(k: usize, s: usize) -> usize
+    requires { ⌜ s < 18446744073709551615 ⌝ }
+    ensures { λ i. ⌜ i ≡ skip k s ⌝ }
+{
+    if s < k { s } else { s + 1 }
+}
+
+// `size` places of a buffer, from `at` on, take what `from` has, and zeros behind it.
+fn fill(from: &[u16], buf: &mut [u16], at: usize, size: usize)
+    requires { ⌜ CellAsked at size (now from) (now buf) ⌝ }
+    ensures { λ _. ⌜ CellFilled at size (now (from .entry)) (now (buf .entry)) (now (buf .exit)) ⌝ }
+{
+    let middle = at + from.len();
+    let end = at + size;
+    polynomial::copy(from, &mut buf[at..middle]);
+    polynomial::clear(&mut buf[middle..end]);
+}
+
+// Of the m rows of r that are left without row k, `next` takes all cells but the last, and `column` the last. Where k is m the
+// first m rows are parted as they are.
+pub fn part(
+    r: &[u16],
+    column: &mut [u16],
+    next: &mut [u16],
+    k: usize,
+    m: usize,
+    w: usize,
+    wide: usize,
+)
+    requires { ⌜ PartAsked m w wide k (now r) (now next) (now column) ⌝ }
+    ensures { λ _. ⌜ Parted m w wide k (now (r .entry)) (now (next .exit)) (now (column .exit)) ⌝ }
+{
+    let kept = (m - 1) * w;
+    let mut s = 0;
+    while s < m {
+        let start = skip(k, s) * (m * w);
+        let last = start + kept;
+        let end = last + w;
+        fill(&r[start..last], next, s * kept, kept);
+        fill(&r[last..end], column, s * wide, wide);
+        s += 1;
+    }
+}
