@@ -247,11 +247,17 @@ pub fn check_sample(sample: &Sample) -> Faults {
     faults
 }
 
-/// Two matrices have the same Popov form just if they are equivalent.
+/// The pair's Popov forms by this program, with the checks of `check_forms`.
 pub fn check_pair(pair: &Pair) -> Faults {
-    let mut faults = Faults::new();
     let first = popov::popov_form(pair.p, &pair.first).p;
     let second = popov::popov_form(pair.p, &pair.second).p;
+    check_forms(pair, &first, &second)
+}
+
+/// The Popov forms found for the matrices of a pair are the same just if these
+/// are equivalent; and the first is the one that the pair was made from, if any.
+pub fn check_forms(pair: &Pair, first: &Matrix, second: &Matrix) -> Faults {
+    let mut faults = Faults::new();
     expect(
         &mut faults,
         (first == second) == pair.equivalent,
@@ -260,7 +266,7 @@ pub fn check_pair(pair: &Pair) -> Faults {
     if let Some(form) = &pair.form {
         expect(
             &mut faults,
-            first == *form,
+            first == form,
             "not the Popov form that the pair was made from",
         );
     }

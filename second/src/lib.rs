@@ -1,5 +1,5 @@
 //! A second program for polynomial matrices over the residues modulo a prime:
-//! weak Popov form, single step, Popov form and determinant.
+//! weak Popov form, single step, Popov form, determinant and printer.
 //!
 //! It is written from the paper alone, for reading beside it, and is compared
 //! with the proved program. Each module names the part of the paper that it
@@ -12,9 +12,11 @@
 pub mod check;
 pub mod det;
 pub mod field;
+pub mod fuzz;
 pub mod matrix;
 pub mod poly;
 pub mod popov;
+pub mod printer;
 #[cfg(feature = "proved")]
 pub mod proved;
 pub mod reduce;

@@ -5,7 +5,7 @@
 use crate::field;
 use crate::matrix::Matrix;
 use crate::poly::Poly;
-use crate::refuse::{self, Refusal, Service};
+use crate::refuse::{self, Call, Refusal, Service};
 
 /// A source of numbers: splitmix64.
 pub struct Source {
@@ -507,19 +507,12 @@ fn different_form(source: &mut Source, p: u64, form: &Form) -> Matrix {
     other
 }
 
-/// A call of a service, with what it must answer: known from how the call was
-/// made, not found by looking at it.
+/// A call with what it must answer: known from how the call was made, not found
+/// by looking at it.
 #[derive(Clone, Debug)]
-pub struct Call {
+pub struct RefusalInput {
     pub label: String,
-    pub service: Service,
-    pub p: u32,
-    pub n: u32,
-    pub m: u32,
-    pub d: u32,
-    pub input: Vec<u16>,
-    /// The lengths of the buffers after the input.
-    pub lengths: Vec<usize>,
+    pub call: Call,
     pub answer: Option<Refusal>,
 }
 
@@ -588,21 +581,21 @@ const SHAPES: [(u32, u32, u32, u32); 5] = [
 ];
 
 /// All refusal inputs of a service.
-pub fn calls(service: Service, seed: u64) -> Vec<Call> {
+pub fn refusal_inputs(service: Service, seed: u64) -> Vec<RefusalInput> {
     let source = &mut Source::new(seed);
-    let mut calls = Vec::new();
-    calls_of_all_heads(source, service, &mut calls);
+    let mut inputs = Vec::new();
+    inputs_of_all_heads(source, service, &mut inputs);
     for (p, n, m, d) in SHAPES {
-        calls_by_change(source, service, (p, n, m, d), &mut calls);
+        inputs_by_change(source, service, (p, n, m, d), &mut inputs);
         if service == Service::Determinant && n != m {
-            calls_by_change(source, service, (p, n, n, d), &mut calls);
+            inputs_by_change(source, service, (p, n, n, d), &mut inputs);
         }
     }
-    calls
+    inputs
 }
 
 /// Every p, n, m, d of the lists with every other, buffers as the table says.
-fn calls_of_all_heads(source: &mut Source, service: Service, calls: &mut Vec<Call>) {
+fn inputs_of_all_heads(source: &mut Source, service: Service, inputs: &mut Vec<RefusalInput>) {
     for p in MODULI {
         for n in SIDES {
             for m in SIDES {
@@ -618,12 +611,11 @@ fn calls_of_all_heads(source: &mut Source, service: Service, calls: &mut Vec<Cal
                     } else {
                         0
                     };
-                    let mut call = call_with_buffers(source, service, (p, n, m, d));
-                    call.label = "head".to_string();
-                    if number > 0 {
-                        call.answer = Some(Refusal { number, place: 0 });
-                    }
-                    calls.push(call);
+                    inputs.push(RefusalInput {
+                        label: "head".to_string(),
+                        call: call_with_buffers(source, service, (p, n, m, d)),
+                        answer: (number > 0).then(|| Refusal::new(number, 0)),
+                    });
                 }
             }
         }
@@ -631,18 +623,18 @@ fn calls_of_all_heads(source: &mut Source, service: Service, calls: &mut Vec<Cal
 }
 
 /// One change alone, and every change with every later one.
-fn calls_by_change(
+fn inputs_by_change(
     source: &mut Source,
     service: Service,
     shape: (u32, u32, u32, u32),
-    calls: &mut Vec<Call>,
+    inputs: &mut Vec<RefusalInput>,
 ) {
     let changes = changes(service, shape.0);
-    calls.push(changed_call(source, service, shape, &[]));
+    inputs.push(changed_input(source, service, shape, &[]));
     for (i, &one) in changes.iter().enumerate() {
-        calls.push(changed_call(source, service, shape, &[one]));
+        inputs.push(changed_input(source, service, shape, &[one]));
         for &two in &changes[i + 1..] {
-            calls.push(changed_call(source, service, shape, &[one, two]));
+            inputs.push(changed_input(source, service, shape, &[one, two]));
         }
     }
 }
@@ -675,17 +667,37 @@ fn changes(service: Service, p: u32) -> Vec<Change> {
     changes
 }
 
-fn changed_call(
+fn changed_input(
     source: &mut Source,
     service: Service,
-    (p, n, m, d): (u32, u32, u32, u32),
+    shape: (u32, u32, u32, u32),
     changes: &[Change],
-) -> Call {
-    let mut call = call_with_buffers(source, service, (p, n, m, d));
-    call.label = format!("{changes:?}");
+) -> RefusalInput {
+    let mut call = call_with_buffers(source, service, shape);
+    let right_lengths = refuse::places(service, call.n as usize, call.m as usize, call.d as usize);
     // Coefficients first: a shorter input may lose one again, which then is
     // behind the refusal of the length.
-    let mut bad_indices = Vec::new();
+    let mut faults = change_coefficients(&mut call, changes);
+    if service == Service::Determinant && call.n != call.m {
+        faults.push((4, 0));
+    }
+    for &change in changes {
+        faults.extend(change_shape(&mut call, &right_lengths, change));
+    }
+    RefusalInput {
+        label: format!("{changes:?}"),
+        call,
+        answer: faults
+            .into_iter()
+            .min()
+            .map(|(number, place)| Refusal::new(number, place)),
+    }
+}
+
+/// Makes the changes of coefficients. Returns refusal 6 with the first place
+/// that is wrong then.
+fn change_coefficients(call: &mut Call, changes: &[Change]) -> Vec<(u32, u64)> {
+    let mut wrong = Vec::new();
     for &change in changes {
         if let Change::Coefficient(index, value) = change {
             let last = call.input.len() - 1;
@@ -695,59 +707,49 @@ fn changed_call(
                 Index::Last => last,
             };
             call.input[index] = value;
-            bad_indices.retain(|&other| other != index);
-            if value as u32 >= p {
-                bad_indices.push(index);
+            wrong.retain(|&other| other != index);
+            if value as u32 >= call.p {
+                wrong.push(index);
             }
         }
     }
-    let mut faults = Vec::new();
-    if let Some(&place) = bad_indices.iter().min() {
-        faults.push((6, place as u64));
-    }
-    if service == Service::Determinant && n != m {
-        faults.push((4, 0));
-    }
-    for &change in changes {
-        match change {
-            Change::P(value) => {
-                call.p = value;
-                faults.push((1, 0));
-            }
-            Change::N(value) => {
-                call.n = value;
-                faults.push((2, 0));
-            }
-            Change::M(value) => {
-                call.m = value;
-                faults.push((2, 0));
-            }
-            Change::D(value) => {
-                call.d = value;
-                faults.push((3, 0));
-            }
-            Change::Length(buffer, length) => {
-                let right = refuse::places(service, n as usize, m as usize, d as usize);
-                let length = match length {
-                    NewLength::Short => right[buffer - 1] - 1,
-                    NewLength::Long => right[buffer - 1] + 1,
-                    NewLength::Empty => 0,
-                };
-                if buffer == 1 {
-                    call.input.resize(length, 0);
-                } else {
-                    call.lengths[buffer - 2] = length;
-                }
-                faults.push((5, buffer as u64));
-            }
-            Change::Coefficient(..) => {}
+    let first = wrong.iter().min();
+    first.map(|&place| (6, place as u64)).into_iter().collect()
+}
+
+/// Makes a change of a number or of a length. Returns its refusal and place.
+fn change_shape(call: &mut Call, right_lengths: &[usize], change: Change) -> Option<(u32, u64)> {
+    match change {
+        Change::P(value) => {
+            call.p = value;
+            Some((1, 0))
         }
+        Change::N(value) => {
+            call.n = value;
+            Some((2, 0))
+        }
+        Change::M(value) => {
+            call.m = value;
+            Some((2, 0))
+        }
+        Change::D(value) => {
+            call.d = value;
+            Some((3, 0))
+        }
+        Change::Length(buffer, length) => {
+            let length = match length {
+                NewLength::Short => right_lengths[buffer - 1] - 1,
+                NewLength::Long => right_lengths[buffer - 1] + 1,
+                NewLength::Empty => 0,
+            };
+            match buffer {
+                1 => call.input.resize(length, 0),
+                _ => call.lengths[buffer - 2] = length,
+            }
+            Some((5, buffer as u64))
+        }
+        Change::Coefficient(..) => None,
     }
-    call.answer = faults
-        .into_iter()
-        .min()
-        .map(|(number, place)| Refusal { number, place });
-    call
 }
 
 /// A call with all buffers as the table says, where the table says anything;
@@ -766,7 +768,6 @@ fn call_with_buffers(
     let input_length = lengths.remove(0);
     let bound = p.clamp(1, 65_536) as u64;
     Call {
-        label: String::new(),
         service,
         p,
         n,
@@ -776,7 +777,6 @@ fn call_with_buffers(
             .map(|_| source.residue(bound) as u16)
             .collect(),
         lengths,
-        answer: None,
     }
 }
 

@@ -7,7 +7,7 @@ use second::det;
 use second::matrix::Matrix;
 use second::popov::{self, Popov};
 use second::reduce::{self, Reduction};
-use second::refuse::{self, Refusal, Service, SERVICES};
+use second::refuse::{self, Call, Refusal, Service, SERVICES};
 
 /// A matrix from its rows, each cell a list of coefficients, constant term
 /// first.
@@ -24,32 +24,43 @@ fn reduction(p: u64, d: usize, a: &Matrix) -> Reduction {
     let done = reduce::reduce(p, a);
     assert!(check::check_reduction(p, d, a, &done).is_empty());
     assert!(check::check_single_steps(p, a, &done).is_empty());
-    #[cfg(feature = "proved")]
-    for service in [Service::Reduction, Service::SingleStep] {
-        let label = "an example of the papers";
-        assert!(second::proved::matrix_agrees(label, service, p, d, a));
-    }
+    proved_program_agrees(Service::Reduction, p, d, a);
+    proved_program_agrees(Service::SingleStep, p, d, a);
     done
 }
 
 fn popov_form(p: u64, d: usize, a: &Matrix) -> Popov {
     let done = popov::popov_form(p, a);
     assert!(check::check_popov(p, d, a, &done).is_empty());
+    proved_program_agrees(Service::PopovForm, p, d, a);
     done
 }
 
-/// The refusal of a call whose buffers are as the table says, where it says
-/// anything.
-fn refusal(service: Service, p: u32, n: u32, m: u32, d: u32) -> Option<Refusal> {
+#[cfg(feature = "proved")]
+fn proved_program_agrees(service: Service, p: u64, d: usize, a: &Matrix) {
+    let label = "an example of the papers";
+    assert!(second::proved::matrix_agrees(label, service, p, d, a));
+}
+
+#[cfg(not(feature = "proved"))]
+fn proved_program_agrees(_: Service, _: u64, _: usize, _: &Matrix) {}
+
+/// A call whose buffers are as the table says, where it says anything, and whose
+/// coefficients are 0.
+fn call(service: Service, p: u32, n: u32, m: u32, d: u32) -> Call {
     let inside = n <= 8 && m <= 8 && d <= 63;
-    let (n_, m_, d_) = if inside { (n, m, d) } else { (1, 1, 0) };
-    let mut lengths = refuse::places(service, n_ as usize, m_ as usize, d_ as usize);
-    let input = vec![0; lengths.remove(0)];
-    refuse::refusal(service, p, n, m, d, &input, &lengths)
+    let (rows, columns, limit) = if inside { (n, m, d) } else { (1, 1, 0) };
+    let zero = Matrix::zero(rows as usize, columns as usize);
+    let call = Call::of_matrix(service, p as u64, limit as usize, &zero);
+    Call { n, m, d, ..call }
+}
+
+fn refusal(service: Service, p: u32, n: u32, m: u32, d: u32) -> Option<Refusal> {
+    refuse::refusal(&call(service, p, n, m, d))
 }
 
 fn number(number: u32, place: u64) -> Option<Refusal> {
-    Some(Refusal { number, place })
+    Some(Refusal::new(number, place))
 }
 
 #[test]
@@ -169,13 +180,12 @@ fn w11() {
 #[test]
 fn w12() {
     for service in SERVICES {
-        let mut lengths = refuse::places(service, 2, 2, 1);
-        let mut input = vec![6; lengths.remove(0)];
-        let refusal = |input: &[u16]| refuse::refusal(service, 7, 2, 2, 1, input, &lengths);
-        assert_eq!(refusal(&input), None);
-        input[3] = 7;
-        input[5] = 7;
-        assert_eq!(refusal(&input), number(6, 3));
+        let mut call = call(service, 7, 2, 2, 1);
+        call.input.fill(6);
+        assert_eq!(refuse::refusal(&call), None);
+        call.input[3] = 7;
+        call.input[5] = 7;
+        assert_eq!(refuse::refusal(&call), number(6, 3));
     }
 }
 

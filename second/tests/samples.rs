@@ -70,21 +70,9 @@ fn all_matrices_of_small_shapes() {
 fn refusal_inputs_have_their_answers() {
     for service in SERVICES {
         let mut seen = [0; 7];
-        for call in sample::calls(service, 5) {
-            let answer = refuse::refusal(
-                service,
-                call.p,
-                call.n,
-                call.m,
-                call.d,
-                &call.input,
-                &call.lengths,
-            );
-            assert_eq!(
-                answer, call.answer,
-                "{service:?} {} p={} n={} m={} d={}",
-                call.label, call.p, call.n, call.m, call.d
-            );
+        for input in sample::refusal_inputs(service, 5) {
+            let answer = refuse::refusal(&input.call);
+            assert_eq!(answer, input.answer, "{} {:?}", input.label, input.call);
             seen[answer.map_or(0, |refusal| refusal.number as usize)] += 1;
         }
         for (number, &times) in seen.iter().enumerate() {

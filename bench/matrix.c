@@ -1,0 +1,281 @@
+/* The proved reduction and Popov form beside plain C of the same method, in one run.
+ *
+ * matrix time     prints microseconds per call and the ratio (below 1: the proved one is faster)
+ * matrix compare  only compares result, U, V and the counts of steps; prints 'N passed, M failed'
+ */
+#include "plain.h"
+
+#include <stdbool.h>
+#include <stdio.h>
+#include <string.h>
+#include <time.h>
+
+/* crates/moorbesen: a slice is a pointer and then a length */
+struct reply {
+    size_t number, place, rank;
+    uint64_t count;
+    size_t rows;
+};
+struct reply moorbesen_reduce(uint32_t p, size_t n, size_t m, size_t d, const uint16_t *a, size_t a_len, uint16_t *r, size_t r_len,
+                              uint16_t *u, size_t u_len, uint16_t *v, size_t v_len);
+struct popov_reply {
+    size_t number, place, rank;
+    uint64_t first, second;
+};
+struct popov_reply moorbesen_popov(uint32_t p, size_t n, size_t m, size_t d, const uint16_t *a, size_t a_len, uint16_t *r, size_t r_len,
+                                   uint16_t *u, size_t u_len, uint16_t *v, size_t v_len);
+
+enum { MOST = 8, WIDTH = 64, PLACES = MOST * MOST * WIDTH };
+static const uint32_t moduli[] = {65521, 929};
+static const unsigned sizes[] = {2, 4, 8};
+static const unsigned degrees[] = {15, 63};
+enum kind { RANDOM, COLUMN, HALF_RANK, TRIANGULAR, KINDS };
+static const char *const names[] = {"random", "column", "half rank", "triangular"};
+
+/* A shape, the same number of rows and columns, and the input. */
+struct input {
+    enum kind kind;
+    uint32_t p;
+    unsigned n, d;
+    uint16_t a[PLACES];
+};
+
+/* What a program wrote. */
+struct output {
+    uint16_t r[PLACES], u[MOST * PLACES], v[PLACES];
+    struct counts counts;
+    bool done;
+};
+
+/* xorshift; set anew for every input, so that an input does not depend on those before it */
+static uint64_t state;
+
+static uint16_t residue(uint32_t p)
+{
+    state ^= state << 13;
+    state ^= state >> 7;
+    state ^= state << 17;
+    return (uint16_t)((state >> 32) % p);
+}
+
+/* A polynomial of exactly this degree, so that the degrees are the ones the table names. */
+static void polynomial(uint16_t *cell, unsigned degree, uint32_t p)
+{
+    for (unsigned e = 0; e < degree; e++)
+        cell[e] = residue(p);
+    cell[degree] = (uint16_t)(1 + residue(p - 1));
+}
+
+/* A factor of a product, n rows by s columns: all random, or unit triangular. */
+static void factor(uint16_t *x, unsigned n, unsigned s, unsigned degree, uint32_t p, bool triangular, bool lower)
+{
+    memset(x, 0, PLACES * sizeof *x);
+    for (unsigned i = 0; i < n; i++)
+        for (unsigned j = 0; j < s; j++) {
+            uint16_t *cell = x + (i * s + j) * WIDTH;
+            if (triangular && i == j)
+                cell[0] = 1;
+            else if (!triangular || (lower ? i > j : i < j))
+                polynomial(cell, degree, p);
+        }
+}
+
+/* The product of n by s and s by n, of degrees that sum to at most the degree of the input. */
+static void product(struct input *in, const uint16_t *x, unsigned dx, unsigned s, const uint16_t *y, unsigned dy)
+{
+    for (unsigned i = 0; i < in->n; i++)
+        for (unsigned j = 0; j < in->n; j++) {
+            uint16_t *cell = in->a + (i * in->n + j) * (in->d + 1);
+            for (unsigned t = 0; t < s; t++)
+                for (unsigned f = 0; f <= dx; f++)
+                    for (unsigned g = 0; g <= dy; g++) {
+                        uint64_t term = (uint64_t)x[(i * s + t) * WIDTH + f] * y[(t * in->n + j) * WIDTH + g];
+                        cell[f + g] = (uint16_t)((cell[f + g] + term) % in->p);
+                    }
+        }
+}
+
+static void fill(struct input *in)
+{
+    static uint16_t x[PLACES], y[PLACES];
+    const unsigned n = in->n, d = in->d, half = d / 2;
+    const uint32_t p = in->p;
+    state = UINT64_C(88172645463325252);
+    memset(in->a, 0, sizeof in->a);
+    switch (in->kind) {
+    case HALF_RANK:
+        factor(x, n, n / 2, half, p, false, false);
+        factor(y, n / 2, n, d - half, p, false, false);
+        product(in, x, half, n / 2, y, d - half);
+        break;
+    case TRIANGULAR:
+        factor(x, n, n, half, p, true, true);
+        factor(y, n, n, half, p, true, false);
+        product(in, x, half, n, y, half);
+        break;
+    default:
+        for (unsigned i = 0; i < n; i++)
+            for (unsigned j = 0; j < n; j++) {
+                uint16_t *cell = in->a + (i * n + j) * (d + 1);
+                if (in->kind == RANDOM || j == 0)
+                    polynomial(cell, d, p);
+                else
+                    cell[0] = i == j;
+            }
+    }
+}
+
+static size_t places(const struct input *in)
+{
+    return (size_t)in->n * in->n * (in->d + 1);
+}
+
+/* The programs stand in files of their own, so no call is inlined. */
+static void proved_reduction(const struct input *in, struct output *out)
+{
+    const size_t n = in->n, w = places(in);
+    struct reply reply = moorbesen_reduce(in->p, n, n, in->d, in->a, w, out->r, w, out->u, n * w, out->v, w);
+    out->done = reply.number == 0;
+    out->counts = (struct counts){reply.count, 0};
+}
+
+static void plain_reduction(const struct input *in, struct output *out)
+{
+    out->counts = plain_reduce(in->p, in->n, in->n, in->d, in->a, out->r, out->u, out->v);
+    out->done = true;
+}
+
+static void proved_popov_form(const struct input *in, struct output *out)
+{
+    const size_t n = in->n, w = places(in);
+    struct popov_reply reply = moorbesen_popov(in->p, n, n, in->d, in->a, w, out->r, w, out->u, n * w, out->v, w);
+    out->done = reply.number == 0;
+    out->counts = (struct counts){reply.first, reply.second};
+}
+
+static void plain_popov_form(const struct input *in, struct output *out)
+{
+    out->counts = plain_popov(in->p, in->n, in->n, in->d, in->a, out->r, out->u, out->v);
+    out->done = true;
+}
+
+enum { PLAIN, PROVED, PROGRAMS };
+typedef void program(const struct input *in, struct output *out);
+struct service {
+    const char *name;
+    program *programs[PROGRAMS];
+};
+enum { SERVICES = 2 };
+static const struct service services[SERVICES] = {
+    {"reduction", {plain_reduction, proved_reduction}},
+    {"Popov form", {plain_popov_form, proved_popov_form}},
+};
+static struct output outputs[PROGRAMS];
+
+/* The outputs are filled differently first, so that a place left unwritten shows, even if both programs leave it. */
+static bool same(const struct service *service, const struct input *in)
+{
+    const struct output *plain = &outputs[PLAIN], *proved = &outputs[PROVED];
+    const size_t bytes = places(in) * sizeof *in->a;
+    for (int i = 0; i < PROGRAMS; i++) {
+        memset(&outputs[i], 0xfe + i, sizeof outputs[i]);
+        service->programs[i](in, &outputs[i]);
+    }
+    return proved->done && proved->counts.first == plain->counts.first && proved->counts.second == plain->counts.second &&
+           memcmp(proved->r, plain->r, bytes) == 0 && memcmp(proved->u, plain->u, in->n * bytes) == 0 &&
+           memcmp(proved->v, plain->v, bytes) == 0;
+}
+
+/* Processor time, in microseconds, so that other work on the machine is not counted. */
+static double now(void)
+{
+    struct timespec t;
+    clock_gettime(CLOCK_PROCESS_CPUTIME_ID, &t);
+    return (double)t.tv_sec * 1e6 + (double)t.tv_nsec * 1e-3;
+}
+
+/* Microseconds for so many calls. */
+static double timed(program *program, struct output *out, const struct input *in, unsigned calls)
+{
+    double start = now();
+    for (unsigned i = 0; i < calls; i++)
+        program(in, out);
+    return now() - start;
+}
+
+/* Prints the times of a service and returns its ratio. The best of several rounds counts, since other work on the
+ * machine only ever adds time; the programs take turns, so that a slow spell meets both. */
+static double measure(const struct service *service, const struct input *in)
+{
+    enum { ROUNDS = 15 };
+    const double least = 5000; /* microseconds of a round */
+    double best[PROGRAMS] = {1e18, 1e18};
+    unsigned calls[PROGRAMS];
+    for (int i = 0; i < PROGRAMS; i++)
+        for (calls[i] = 1; timed(service->programs[i], &outputs[i], in, calls[i]) < least;)
+            calls[i] *= 2;
+    for (int round = 0; round < ROUNDS; round++)
+        for (int i = 0; i < PROGRAMS; i++) {
+            double each = timed(service->programs[i], &outputs[i], in, calls[i]) / calls[i];
+            best[i] = each < best[i] ? each : best[i];
+        }
+    printf("  %10.2f %9.2f %6.2f", best[PROVED], best[PLAIN], best[PROVED] / best[PLAIN]);
+    fflush(stdout);
+    return best[PROVED] / best[PLAIN];
+}
+
+/* Whether the services are to be timed, and what was found. */
+struct results {
+    bool show;
+    int passed, failed;
+    double sum[SERVICES], worst[SERVICES];
+};
+
+/* One input: a line of the table. The last service is the one that makes steps of both kinds. */
+static void row(struct results *results, const struct input *in)
+{
+    if (results->show)
+        printf("%-10s %5u %u %2u", names[in->kind], in->p, in->n, in->d);
+    for (int i = 0; i < SERVICES; i++) {
+        if (same(&services[i], in)) {
+            results->passed++;
+        } else {
+            results->failed++;
+            printf(" %s of %s p=%u n=%u d=%u: results differ\n", services[i].name, names[in->kind], in->p, in->n, in->d);
+        }
+        if (results->show) {
+            double ratio = measure(&services[i], in);
+            results->sum[i] += ratio;
+            results->worst[i] = ratio > results->worst[i] ? ratio : results->worst[i];
+        }
+    }
+    const struct counts counts = outputs[PLAIN].counts;
+    if (results->show)
+        printf("  %5llu %2llu\n", (unsigned long long)counts.first, (unsigned long long)counts.second);
+}
+
+int main(int argc, char **argv)
+{
+    static struct input in;
+    struct results results = {.show = argc > 1 && strcmp(argv[1], "time") == 0};
+    int inputs = 0;
+    if (results.show)
+        printf("                         reduction, microseconds      Popov form, microseconds     steps\n"
+               "input          p n  d      proved         C  ratio      proved         C  ratio    of 2 kinds\n");
+    for (in.kind = 0; in.kind < KINDS; in.kind++)
+        for (size_t i = 0; i < sizeof moduli / sizeof *moduli; i++)
+            for (size_t j = 0; j < sizeof sizes / sizeof *sizes; j++)
+                for (size_t k = 0; k < sizeof degrees / sizeof *degrees; k++) {
+                    in.p = moduli[i];
+                    in.n = sizes[j];
+                    in.d = degrees[k];
+                    fill(&in);
+                    row(&results, &in);
+                    inputs++;
+                }
+    for (int i = 0; results.show && i < SERVICES; i++)
+        printf("%s: mean ratio %.2f, worst %.2f\n", services[i].name, results.sum[i] / inputs, results.worst[i]);
+    if (!results.show)
+        printf("%d passed, %d failed\n", results.passed, results.failed);
+    return results.failed != 0;
+}
