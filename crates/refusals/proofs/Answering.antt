@@ -45,7 +45,7 @@ pub record InOrder (determinant : Bool) (p n m d : ℕ) (given wanted a : List �
   pub residues : Coefficients p a
 
 -- the number is 0, so no row applies
-past : {A P S : Type 0} {number k : ℕ} → number ≡ 0 → 0 < k → ((¬ A) × (number ≡ k) × P) ⊎ (A × S) → A × S
+pub past : {A P S : Type 0} {number k : ℕ} → number ≡ 0 → 0 < k → ((¬ A) × (number ≡ k) × P) ⊎ (A × S) → A × S
 past none some (inl f) = absurd (omega (arith, f .1))
 past none some (inr g) = g
 

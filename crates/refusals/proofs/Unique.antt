@@ -16,7 +16,7 @@ use Rattle.refusals.specs.declared.Check.{Check}
 use Rattle.refusals.specs.declared.Check.the-variants.{Fine, Refused}
 
 -- P holds of one number at most
-abbrev One : (ℕ → Type 0) → Type 0
+abbrev pub One : (ℕ → Type 0) → Type 0
 One P = (i j : ℕ) → P i → P j → i ≡ j
 
 -- so it does if it never holds of two numbers, one less than the other
@@ -25,7 +25,7 @@ one P never i j f g =
     case-le i j (λ le. case-le j i (λ ge. omega arith) (λ lt. absurd (never i j f g lt))) (λ lt. absurd (never j i g f lt))
 
 -- only one place is 0
-zero-one : One Zero
+pub zero-one : One Zero
 zero-one i j f g = f ∙ sym g
 
 -- only one buffer is the first of a wrong length
@@ -33,7 +33,7 @@ wrong-one : (given wanted : List ℕ) → One (FirstWrong given wanted)
 wrong-one given wanted = one _ (λ i j f g lt. f .wrong (g .before (f .at) (omega (arith, f .counted, g .counted))))
 
 -- only one coefficient is the first that is not below p
-high-one : (p : ℕ) (a : List ℕ) → One (FirstHigh p a)
+pub high-one : (p : ℕ) (a : List ℕ) → One (FirstHigh p a)
 high-one p a = one _ (λ i j f g lt. omega (arith, f .high (omega (arith, g .within)), g .before i lt))
 
 -- a table allows one number and one place
@@ -41,12 +41,12 @@ abbrev pub Decides : List Row → Type 0
 Decides table = (k i l j : ℕ) → Told table k i → Told table l j → (k ≡ l) × (i ≡ j)
 
 -- each of its rows allows one place
-abbrev Places : List Row → Type 0
+abbrev pub Places : List Row → Type 0
 Places [] = Unit
 Places ((k, right, at) ∷ rows) = One at × Places rows
 
 -- the first follows from the second
-decides : (rows : List Row) → Places rows → Decides rows
+pub decides : (rows : List Row) → Places rows → Decides rows
 decides [] ones k i l j f g = (f .0 ∙ sym (g .0), f .1 ∙ sym (g .1))
 decides (row ∷ rows) ones k i l j (inl f) (inl g) = (f .1 ∙ sym (g .1), ones .0 i j (f .2) (g .2))
 decides (row ∷ rows) ones k i l j (inl f) (inr g) = absurd (f .0 (g .0))

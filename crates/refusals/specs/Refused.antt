@@ -62,23 +62,32 @@ pub record FirstHigh (p : ℕ) (a : List ℕ) (i : ℕ) : Type 0 where
 abbrev pub Zero : ℕ → Type 0
 Zero place = place ≡ 0
 
--- The refusal table: each number, what has to hold lest it is returned, and the place. `given` are the lengths of the
--- buffers, `wanted` those that they should have, and a is the input.
-abbrev pub refusalTable : (determinant : Bool) (p n m d : ℕ) (given wanted a : List ℕ) → List Row
-refusalTable determinant p n m d given wanted a =
+-- The rows of the refusal table that speak of p, n, m and d, each with its number, what has to hold lest it is returned, and
+-- the place; and then further rows.
+abbrev pub numberRows : (p n m d : ℕ) (further : List Row) → List Row
+numberRows p n m d further =
     -- "p is not a prime in 2 to 65,521", place 0
     (1, Accepted p, Zero) ∷
     -- "n or m outside 1 to 8", place 0
     (2, InShape n m, Zero) ∷
     -- "d outside 0 to 63", place 0
     (3, InDegree d, Zero) ∷
+    further
+
+-- "an input coefficient is p or more", place "its index, counted from 0, first one"
+abbrev pub coefficientRow : (p : ℕ) (a : List ℕ) → Row
+coefficientRow p a = (6, Coefficients p a, FirstHigh p a)
+
+-- The refusal table. `given` are the lengths of the buffers, `wanted` those that they should have, and a is the input.
+abbrev pub refusalTable : (determinant : Bool) (p n m d : ℕ) (given wanted a : List ℕ) → List Row
+refusalTable determinant p n m d given wanted a = numberRows p n m d (
     -- "determinant wanted, n and m differ", place 0
     (4, InSquare determinant n m, Zero) ∷
     -- "a buffer's length is not the table's", place "the first such buffer, counted from 1"
     (5, given ≡ wanted, FirstWrong given wanted) ∷
-    -- "an input coefficient is p or more", place "its index, counted from 0, first one"
-    (6, Coefficients p a, FirstHigh p a) ∷
+    coefficientRow p a ∷
     []
+    )
 
 -- what the checks say, by the table
 abbrev pub Verdict : (determinant : Bool) (p n m d : ℕ) (given wanted a : List ℕ) → Check → Type 0

@@ -46,7 +46,7 @@ fn wide(x: u16) -> u32
 }
 
 // Refusals 1 to 3.
-fn check_numbers(p: u32, n: usize, m: usize, d: usize) -> Check
+pub fn check_numbers(p: u32, n: usize, m: usize, d: usize) -> Check
     ensures { λ r. ⌜ OfNumbers p n m d r ⌝ }
 {
     if !Modulus::accepts(p) {
@@ -99,7 +99,7 @@ fn check_matrix(p: u32, n: usize, m: usize, d: usize, a: usize, r: usize) -> Che
 }
 
 // Refusal 6.
-fn check_coefficients(a: &[u16], p: u32) -> Check
+pub fn check_coefficients(a: &[u16], p: u32) -> Check
     ensures { λ c. ⌜ OfCoefficients p (now (a .entry)) c ⌝ }
 {
     let i = first_high(a, p);

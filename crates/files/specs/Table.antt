@@ -1,0 +1,26 @@
+-- When the printer refuses a text: "length over 32,768; the four head lines (7); refusals 1, 2, 3; the cells (7); 6".
+use mathlib.Core.List.{List, [], _∷_}
+use Prim.Native.Nat.{ℕ, _≤_}
+use lib.ListN.{length}
+use Rattle.refusals.specs.Answering.{Row}
+use Rattle.refusals.specs.Refused.{Zero, numberRows, coefficientRow}
+use Rattle.format.specs.Line.{Lines}
+use Rattle.format.specs.File.{headOf, numbersOf, restOf, modulusOf, rowsOf, columnsOf, degreeOf, cellsOf, AsSaid, WrongLine}
+
+-- the rows for what follows the head, s being that text: the first cell's line is line 5
+abbrev pub bodyTable : (p n m d : ℕ) (s : List ℕ) → List Row
+bodyTable p n m d s = numberRows p n m d (
+    (7, AsSaid (cellsOf n m d s), WrongLine 5 (cellsOf n m d s)) ∷
+    coefficientRow p (numbersOf (cellsOf n m d s)) ∷
+    []
+    )
+
+-- the whole table of a text with `size` bytes and these head lines
+abbrev pub tableBy : (size : ℕ) (head : Lines) → List Row
+tableBy size head =
+    (7, size ≤ 32768, Zero) ∷
+    (7, AsSaid head, WrongLine 1 head) ∷
+    bodyTable (modulusOf head) (rowsOf head) (columnsOf head) (degreeOf head) (restOf head)
+
+abbrev pub printerTable : (s : List ℕ) → List Row
+printerTable s = tableBy (length s) (headOf s)

@@ -1,0 +1,4 @@
+pub mod Digits
+pub mod Comparing
+pub mod Filling
+pub mod Storing
