@@ -1,7 +1,9 @@
 -- A number is prime if none of 2, 3, … up to its root divides it: computed by trial division.
 use mathlib.Core.Path.{_≡_, sym, _∙_, ap, subst}
 use mathlib.Core.Bool.{Bool, true, false, not}
+use mathlib.Core.HLevel.{⊥-prop}
 use Prim.Native.Nat.{ℕ, zero, suc, _+_, _*_, _%_, _/_, _≤_, _<_}
+use native.Mathlib.Bridge.{le-prop}
 use native.Mathlib.Omega.{arith}
 use native.Mathlib.Nat as N
 use lib.Dec.{T, eqb, eqb-refl, T-not, lit≤, lit<}
@@ -49,6 +51,13 @@ trial-sound p (suc n) t e q l z =
 
 pub by-trial : (p n : ℕ) → T (trial p n) → 2 ≤ p → p < (n + 2) * (n + 2) → Prime p
 by-trial p n t = by-root p (n + 2) (trial-sound p n t)
+
+-- all proofs that p is prime are equal
+pub prime-prop : {p : ℕ} (P Q : Prime p) → P ≡ Q
+prime-prop P Q = λ i. record {
+  two = le-prop (P .two) (Q .two) i;
+  only = λ d l q z. ⊥-prop (P .only d l q z) (Q .only d l q z) i;
+}
 
 pub prime-2 : Prime 2
 prime-2 = by-trial 2 0 tt (lit≤ tt) (lit< tt)

@@ -18,7 +18,7 @@ complement p a pos =
 
 module _ (p : ℕ) (P : Prime p) where
   -- an inverse y of p % a gives one of a
-  step : (a y : ℕ) → 0 < a → a < p → p % a * y % p ≡ 1 → a * ((p - p / a) * y) % p ≡ 1
+  pub step : (a y : ℕ) → 0 < a → a < p → p % a * y % p ≡ 1 → a * ((p - p / a) * y) % p ≡ 1
   step a y pos l h = ap (λ x. x % p) e ∙ N.mul-add-mod-self-left p ((a - 1) * y) (p % a * y) ∙ h
     where
       e : a * ((p - p / a) * y) ≡ p * ((a - 1) * y) + p % a * y
@@ -39,7 +39,7 @@ module _ (p : ℕ) (P : Prime p) where
         ((p - p / a) * rec .0, step a (rec .0) pos lp (rec .1)))
   ]
 
-  pos : 0 < p
+  abbrev pos : 0 < p
   pos = let two : 2 ≤ p = P .two in omega arith
 
   -- the inverse of a residue together with its law; of 0, anything
@@ -49,8 +49,8 @@ module _ (p : ℕ) (P : Prime p) where
       let x = inverse (a .val) (a .val) (omega arith) (omega arith) (a .lt) in
       (of p pos (x .0), λ h. mul-mod-right (a .val) (x .0) p ∙ x .1 ∙ sym (N.mod-eq-of-lt (P .two)))
 
-  pub zp-field : Field (Zp p)
-  unfolding zp-ring
+  unfoldable pub zp-field : Field (Zp p)
+  unfolding zp-ring zp-dec inverse-of inverse
   zp-field = record {
     ring = zp-ring p pos;
     dec = zp-dec;

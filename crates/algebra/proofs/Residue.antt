@@ -23,7 +23,7 @@ mul-mod-left a b m = ap (λ x. x % m) (N.mul-comm (a % m) b) ∙ mul-mod-right b
 pub zp-path : {p : ℕ} (a b : Zp p) → a .val ≡ b .val → a ≡ b
 zp-path {p} a b e = λ i. record { val = e i; lt = isProp→PathP (λ j. e j < p) (λ j. le-prop) (a .lt) (b .lt) i }
 
-pub zp-dec : {p : ℕ} (a b : Zp p) → Dec (a ≡ b)
+unfoldable pub zp-dec : {p : ℕ} (a b : Zp p) → Dec (a ≡ b)
 zp-dec a b = elim (ℕ-discrete (a .val) (b .val)) [ yes e ↦ yes (zp-path a b e) | no h ↦ no (λ e. h (ap (λ x. x .val) e)) ]
 
 module _ (p : ℕ) (pos : 0 < p) where

@@ -1,7 +1,7 @@
 -- The determinant worked out by stages. In the stage of m columns, m + 1 rows are reduced in their first m columns while column m,
 -- the parted one, follows; then a row is zero but for that column, and is taken out with its last entry as a factor.
 use mathlib.Core.Path.{_≡_, sym, _∙_, ap, fun-ext}
-use Prim.Native.Nat.{ℕ, zero, suc, _+_, _-_, _*_, _≤_, _<_}
+use Prim.Native.Nat.{ℕ, suc, _+_, _-_, _*_, _≤_, _<_}
 use native.Mathlib.Omega.{arith}
 use native.Mathlib.Nat as N
 use Rattle.algebra.specs.Ring.{CommRing}
@@ -10,7 +10,7 @@ use Rattle.algebra.specs.Polynomial.{Below}
 use Rattle.algebra.proofs.Ring.{ring}
 use Rattle.algebra.proofs.Ring as Ring
 use Rattle.algebra.proofs.Series.{series}
-use Rattle.algebra.proofs.Polynomial.{below-one, below-neg, below-mul}
+use Rattle.algebra.proofs.Polynomial.{below-one, below-mul}
 use Rattle.lattice.specs.Term.{term}
 use Rattle.lattice.specs.Row.{Row, Bounded}
 use Rattle.lattice.specs.PolynomialMatrix.{AllBounded}
@@ -27,6 +27,7 @@ use Rattle.reduction.proofs.Pivot.{value-bound, value-null}
 use Rattle.reduction.proofs.Lowering.{lowered}
 use Rattle.reduction.proofs.Degrees.{D, totals-fall, column-kept, step-no-higher}
 use Rattle.determinant.specs.Determinant.{without, sign-at, det, with-entry}
+use Rattle.determinant.proofs.Degree.{below-sign}
 use Rattle.determinant.proofs.Rows.{height-none, degree-bounds, degree-least}
 use Rattle.determinant.proofs.Alternating.{det-addrow}
 use Rattle.determinant.proofs.Expansion.{det-last, det-one}
@@ -52,10 +53,6 @@ module _ {F : Type 0} (K : Field F) (size B : ℕ) (whole : ℕ → F) where
     pub less : degrees K size m T ≤ E
     pub column : (s : ℕ) → s < suc m → Below (K .ring) (T s m) (suc (D K (suc m) m size T s + (E - degrees K size m T)))
     pub product-below : Below (K .ring) product (suc (B - E))
-
-  below-sign : (j : ℕ) (f : ℕ → F) {d : ℕ} → Below (K .ring) f d → Below (K .ring) (sign-at S j ⊛ f) d
-  below-sign zero f h = rw Ring.one-mul h
-  below-sign (suc j) f h = rw Ring.neg-mul (below-neg (K .ring) _ _ (below-sign j f h))
 
   -- a stage begins where row s has no degree above e s
   begun : (E m : ℕ) (T : ℕ → Row F) (product : ℕ → F) (e : ℕ → ℕ) → product ⊛ det S (suc m) T ≡ whole
@@ -134,7 +131,7 @@ module _ {F : Type 0} (K : Field F) (size B : ℕ) (whole : ℕ → F) where
           (λ s l c lc. degree-bounds K m size (T (skip k s)) (x .bounded (skip k s) (kept s l)) c (omega arith))
           (omega (arith, flat, total-skip m k rows (omega arith), ap (λ y. total y (λ s. rows (skip k s))) e))
           (omega (arith, x .less, x .within))
-          (below-sign (k + m) _ stage-product)
+          (below-sign (K .ring) (k + m) _ stage-product)
         where
           kept : (s : ℕ) → s < suc m′ → skip k s < suc m
           kept s l = skip-fits m k s (omega arith)

@@ -79,7 +79,7 @@ module _ {F : Type 0} (K : Field F) (n m size : ℕ) (A : ℕ → Row F) where
     popov-facts p = subst (PopovFacts K n m size A _ _ (p .weak)) (p .last) (scaled-facts (p .first-kind) (p .second-kind))
 
     -- there is such a run
-    pub popov-exists : (first second : ℕ) × (t : Carried F) × PopovRun K n m size A first second t
+    unfoldable pub popov-exists : (first second : ℕ) × (t : Carried F) × PopovRun K n m size A first second t
     popov-exists =
         let (first, weak, run) = reach K n m size (begin (K .ring) A) b in
         let ended = runs-ended K n m size A run b in

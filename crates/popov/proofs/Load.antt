@@ -8,7 +8,7 @@ use Rattle.lists.specs.Total.{total}
 use Rattle.lists.proofs.Total.{total-same, total-lt, total-bound}
 use Rattle.popov.specs.SecondKind.{Highest}
 
-greatest : ℕ → (ℕ → ℕ) → ℕ
+unfoldable pub greatest : ℕ → (ℕ → ℕ) → ℕ
 greatest zero h = 0
 greatest (suc k) h = greatest k h + (h k - greatest k h)
 
@@ -22,7 +22,7 @@ unfolding greatest
 greatest-least zero b h f = omega arith
 greatest-least (suc k) b h f = omega (arith, greatest-least k b h (λ j l. f j (omega arith)), f k (omega arith))
 
-pub load : ℕ → (ℕ → ℕ) → ℕ
+unfoldable pub load : ℕ → (ℕ → ℕ) → ℕ
 load k h = total k (λ j. h j + (greatest k h - 1 - h j))
 
 -- only the k excesses count

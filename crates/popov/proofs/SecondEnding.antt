@@ -56,11 +56,11 @@ module _ {F : Type 0} (K : Field F) (n m size : ℕ) where
     abbrev Fits : Carried F → Type 0
     Fits t = Tidy K n m size r (t .R)
 
-    fits-step : (t : Carried F) (p : Removal n (excesses K m size (t .R))) → Fits t → Fits (remove K m size t p)
+    pub fits-step : (t : Carried F) (p : Removal n (excesses K m size (t .R))) → Fits t → Fits (remove K m size t p)
     unfolding remove
     fits-step t p y = tidy-step K n m size r columns (t .R) y p
 
-    falls : (t : Carried F) (p : Removal n (excesses K m size (t .R))) → Fits t
+    pub falls : (t : Carried F) (p : Removal n (excesses K m size (t .R))) → Fits t
         → left K n m size (remove K m size t p .R) < left K n m size (t .R)
     unfolding remove
     falls t p y = left-falls K n m size r columns (t .R) y p
@@ -70,7 +70,7 @@ module _ {F : Type 0} (K : Field F) (n m size : ℕ) where
         → {c : ℕ} {t u : Carried F} → SecondRuns K n m size c t u → Fits t → I t → Fits u × I u
     second-keep I f q y i = iterates-keep steps (λ t. Fits t × I t) (λ t p z. (fits-step t p (z .0), f t p (z .0) (z .1))) q (y, i)
 
-    pub second-reach : (t : Carried F) → Fits t → Ends steps t
+    unfoldable pub second-reach : (t : Carried F) → Fits t → Ends steps t
     second-reach = iterate steps Fits fits-step (λ t. left K n m size (t .R)) falls
 
     -- "The second is at most r(r-1)(d+1), and 0 for r = 0."

@@ -34,7 +34,7 @@ module _ {F : Type 0} (K : Field F) (n m size : ℕ) where
       (λ t p x. let w = pair-lowered t (x .0) p in (w .bounded, f t _ _ (x .0) w (x .1))) r (b, i)
 
   -- from every matrix the end is reached, for every step lowers the sum of the values
-  pub reach : (t : Carried F) → Fits t → Ends (reduction K n m size) t
+  unfoldable pub reach : (t : Carried F) → Fits t → Ends (reduction K n m size) t
   unfolding advance-pair
   reach = iterate (reduction K n m size) Fits (λ t p b. pair-lowered t b p .bounded) (λ t. total n (v (t .R))) (λ t p b.
       let w = pair-lowered t b p in

@@ -26,18 +26,18 @@ module _ {X : Type 0} (P : Process X) where
   abbrev pub Ends : X → Type 0
   Ends x = (c : ℕ) × (y : X) × Iterates P c x y
 
-  ends : (x : X) → ((p : P .Next x) → Ends (P .apply x p)) → P .Next x ⊎ P .Halt x → Ends x
+  unfoldable pub ends : (x : X) → ((p : P .Next x) → Ends (P .apply x p)) → P .Next x ⊎ P .Halt x → Ends x
   ends x rest (inl p) = let (c, y, r) = rest p in (suc c, y, more p r)
   ends x rest (inr h) = (0, x, halt h)
 
   -- so it is where a measure falls at every step
   module _ (I : X → Type 0) (keep : (x : X) (p : P .Next x) → I x → I (P .apply x p))
       (measure : X → ℕ) (fall : (x : X) (p : P .Next x) → I x → measure (P .apply x p) < measure x) where
-    within : (s : ℕ) (x : X) → I x → measure x ≤ s → Ends x
+    unfoldable pub within : (s : ℕ) (x : X) → I x → measure x ≤ s → Ends x
     within zero x i l = ends x (λ p. absurd (omega (arith, fall x p i))) (P .find x)
     within (suc s) x i l = ends x (λ p. within s (P .apply x p) (keep x p i) (omega (arith, fall x p i))) (P .find x)
 
-    pub iterate : (x : X) → I x → Ends x
+    unfoldable pub iterate : (x : X) → I x → Ends x
     iterate x i = within (measure x) x i (omega arith)
 
     -- and the measure bounds the count

@@ -1,0 +1,4 @@
+pub mod Listing
+pub mod Verdict
+pub mod Computed
+pub mod Worked
