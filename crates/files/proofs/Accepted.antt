@@ -9,15 +9,15 @@ use Rattle.refusals.specs.Answering.{Told}
 use Rattle.refusals.specs.Refused.{Numbers}
 use Rattle.refusals.proofs.Answering.{past}
 use Rattle.format.specs.Line.{Lines}
-use Rattle.format.specs.File.{headOf, numbersOf, modulusOf, rowsOf, columnsOf, degreeOf, bodyOf, AsSaid}
+use Rattle.format.specs.File.{headLines, numbersOf, headModulus, headRows, headColumns, headDegree, bodyLines, AsSaid}
 use Rattle.files.specs.Table.{tableBy, printerTable}
 
 -- its lines are as said, and p, n, m, d and the coefficients are in range
 pub record InFormat (head : Lines) : Type 0 where
   pub head-said : AsSaid head
-  pub numbers : Numbers (modulusOf head) (rowsOf head) (columnsOf head) (degreeOf head)
-  pub cells-said : AsSaid (bodyOf head)
-  pub residues : Coefficients (modulusOf head) (numbersOf (bodyOf head))
+  pub numbers : Numbers (headModulus head) (headRows head) (headColumns head) (headDegree head)
+  pub cells-said : AsSaid (bodyLines head)
+  pub residues : Coefficients (headModulus head) (numbersOf (bodyLines head))
 
 told-nothing : (size : ℕ) (head : Lines) {place : ℕ} → Told (tableBy size head) 0 place → InFormat head
 told-nothing size head told =
@@ -30,5 +30,5 @@ told-nothing size head told =
     let (residues, _) = past refl (omega arith) after-cells in
     record { head-said = said; numbers = record { modulus = modulus; shape = shape; degree = degree }; cells-said = cells; residues = residues }
 
-pub accepted : (s : List ℕ) {place : ℕ} → Told (printerTable s) 0 place → InFormat (headOf s)
-accepted s told = told-nothing (length s) (headOf s) told
+pub accepted : (s : List ℕ) {place : ℕ} → Told (printerTable s) 0 place → InFormat (headLines s)
+accepted s told = told-nothing (length s) (headLines s) told

@@ -16,7 +16,7 @@ use Rattle.refusals.specs.declared.Check.the-variants as Check
 use Rattle.refusals.specs.declared.Check.the-variants.{Fine}
 use Rattle.refusals.proofs.Answering.{refusal-number}
 use Rattle.format.specs.Line.{Lines, read, wrong}
-use Rattle.format.specs.File.{numbersOf, cellsOf, AsSaid, WrongLine}
+use Rattle.format.specs.File.{numbersOf, cellLines, AsSaid, WrongLine}
 use Rattle.files.specs.Table.{bodyTable}
 use Rattle.files.specs.Input.{BodyRead, ReadBy}
 use Rattle.files.specs.declared.Input.{Input}
@@ -57,7 +57,7 @@ module _ (p n m d : ℕ) where
         go (inr (modulus, inr (shape, inr (degree, inr (square, inr (lengths, told)))))) = told
 
     -- the cells are as said, and a are their numbers
-    checked : (s a : List ℕ) → cellsOf n m d s ≡ read a [] → (c : Check) → OfCoefficients p a c
+    checked : (s a : List ℕ) → cellLines n m d s ≡ read a [] → (c : Check) → OfCoefficients p a c
         → Told (bodyTable p n m d s) (checkNumber c) (checkPlace c)
     checked s a cells c found = inr (
       numbers .modulus,
@@ -79,14 +79,14 @@ module _ {p n m d : ℕ} {s room : List ℕ} where
   body-numbers {x} found = record { told = by-numbers p n m d x found (drop 3 (bodyTable p n m d s)); held = tt }
 
   module _ (numbers : Numbers p n m d) where
-    pub body-wrong : {line : ℕ} → WrongLine 5 (cellsOf n m d s) line → BodyRead p n m d s room (Format line)
+    pub body-wrong : {line : ℕ} → WrongLine 5 (cellLines n m d s) line → BodyRead p n m d s room (Format line)
     body-wrong {line} w = record {
-      told = inr (numbers .modulus, inr (numbers .shape, inr (numbers .degree, inl (wrong-not-said 5 (cellsOf n m d s) line w, refl, w))));
+      told = inr (numbers .modulus, inr (numbers .shape, inr (numbers .degree, inl (wrong-not-said 5 (cellLines n m d s) line w, refl, w))));
       held = tt;
     }
 
     -- the numbers of the cells stand at the front of the room
-    module _ (cells : cellsOf n m d s ≡ read (take (n * m * (d + 1)) room) []) where
+    module _ (cells : cellLines n m d s ≡ read (take (n * m * (d + 1)) room) []) where
       pub body-coefficient : {x : Refusal} → OfCoefficients p (take (n * m * (d + 1)) room) (Check.Refused x) → BodyRead p n m d s room (Refused x)
       body-coefficient {x} found = record { told = checked p n m d numbers s _ cells (Check.Refused x) found; held = tt }
 

@@ -6,7 +6,7 @@ use lib.ListN.{length, take, drop}
 use Rattle.refusals.specs.Number.{numberOf, placeOf}
 use Rattle.refusals.specs.Answering.{Row, Told}
 use Rattle.format.specs.Line.{Lines, read}
-use Rattle.format.specs.File.{headOf, numbersOf, restOf, modulusOf, rowsOf, columnsOf, degreeOf, cellsOf, WrongLine}
+use Rattle.format.specs.File.{headLines, numbersOf, restOf, headModulus, headRows, headColumns, headDegree, cellLines, WrongLine}
 use Rattle.files.specs.Table.{bodyTable, tableBy}
 use Rattle.files.specs.declared.Input.{Input}
 use Rattle.files.specs.declared.Input.the-variants.{Format, Refused, Matrix}
@@ -27,7 +27,7 @@ inputPlace (Refused x) = placeOf x
 inputPlace (Matrix p n m d) = 0
 
 -- the matrix that was read has these numbers, and its coefficients stand at the front of the room
-pub record Held (p n m d : ℕ) (cells : Lines) (room : List ℕ) (p′ n′ m′ d′ : ℕ) : Type 0 where
+pub record MatrixHeld (p n m d : ℕ) (cells : Lines) (room : List ℕ) (p′ n′ m′ d′ : ℕ) : Type 0 where
   pub modulus : p′ ≡ p
   pub rows : n′ ≡ n
   pub columns : m′ ≡ m
@@ -38,12 +38,12 @@ pub record Held (p n m d : ℕ) (cells : Lines) (room : List ℕ) (p′ n′ m�
 abbrev pub InputHeld : (p n m d : ℕ) (cells : Lines) (room : List ℕ) → Input → Type 0
 InputHeld p n m d cells room (Format place) = Unit
 InputHeld p n m d cells room (Refused x) = Unit
-InputHeld p n m d cells room (Matrix p′ n′ m′ d′) = Held p n m d cells room p′ n′ m′ d′
+InputHeld p n m d cells room (Matrix p′ n′ m′ d′) = MatrixHeld p n m d cells room p′ n′ m′ d′
 
 -- the number and the place are the table's, and a matrix that was read is in the room
 pub record InputRead (table : List Row) (p n m d : ℕ) (s room : List ℕ) (x : Input) : Type 0 where
   pub told : Told table (inputNumber x) (inputPlace x)
-  pub held : InputHeld p n m d (cellsOf n m d s) room x
+  pub held : InputHeld p n m d (cellLines n m d s) room x
 
 -- of the text after the head
 abbrev pub BodyRead : (p n m d : ℕ) (s room : List ℕ) → Input → Type 0
@@ -51,10 +51,10 @@ BodyRead p n m d s room x = InputRead (bodyTable p n m d s) p n m d s room x
 
 -- of a whole text with `size` bytes and these head lines
 abbrev pub ReadBy : (size : ℕ) (head : Lines) (room : List ℕ) → Input → Type 0
-ReadBy size head room x = InputRead (tableBy size head) (modulusOf head) (rowsOf head) (columnsOf head) (degreeOf head) (restOf head) room x
+ReadBy size head room x = InputRead (tableBy size head) (headModulus head) (headRows head) (headColumns head) (headDegree head) (restOf head) room x
 
 abbrev pub FileRead : (s room : List ℕ) → Input → Type 0
-FileRead s room x = ReadBy (length s) (headOf s) room x
+FileRead s room x = ReadBy (length s) (headLines s) room x
 
 -- ## The parts
 

@@ -5,22 +5,23 @@ use lib.ListN.{length}
 use Rattle.refusals.specs.Answering.{Row}
 use Rattle.refusals.specs.Refused.{Zero, numberRows, coefficientRow}
 use Rattle.format.specs.Line.{Lines}
-use Rattle.format.specs.File.{headOf, numbersOf, restOf, modulusOf, rowsOf, columnsOf, degreeOf, cellsOf, AsSaid, WrongLine}
+use Rattle.format.specs.File.{headLines, numbersOf, restOf, headModulus, headRows, headColumns, headDegree, cellLines, AsSaid, WrongLine}
 
 -- the rows for what follows the head, s being that text: the first cell's line is line 5
 abbrev pub bodyTable : (p n m d : ℕ) (s : List ℕ) → List Row
 bodyTable p n m d s = numberRows p n m d (
-    (7, AsSaid (cellsOf n m d s), WrongLine 5 (cellsOf n m d s)) ∷
-    coefficientRow p (numbersOf (cellsOf n m d s)) ∷
+    (7, AsSaid (cellLines n m d s), WrongLine 5 (cellLines n m d s)) ∷
+    coefficientRow p (numbersOf (cellLines n m d s)) ∷
     []
     )
 
--- the whole table of a text with `size` bytes and these head lines
+-- the whole table of a text with `size` bytes and these head lines; where they aren't as said the second row applies, and what
+-- then stands for p, n, m, d and the rest has no say
 abbrev pub tableBy : (size : ℕ) (head : Lines) → List Row
 tableBy size head =
     (7, size ≤ 32768, Zero) ∷
     (7, AsSaid head, WrongLine 1 head) ∷
-    bodyTable (modulusOf head) (rowsOf head) (columnsOf head) (degreeOf head) (restOf head)
+    bodyTable (headModulus head) (headRows head) (headColumns head) (headDegree head) (restOf head)
 
 abbrev pub printerTable : (s : List ℕ) → List Row
-printerTable s = tableBy (length s) (headOf s)
+printerTable s = tableBy (length s) (headLines s)

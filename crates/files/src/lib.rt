@@ -9,7 +9,7 @@ use refusals::Check;
 use refusals::Refusal;
 ghost use mathlib.Core.Path.{_≡_};
 ghost use lib.ListN.{length, drop};
-ghost use Rattle.format.specs.File.{headOf, cellsOf};
+ghost use Rattle.format.specs.File.{headLines, cellLines};
 ghost use Rattle.reading.specs.Read.{CellsAsked};
 ghost use Rattle.files.specs.Input.{HeadRead, MatrixRead, BodyAsked, BodyRead, FileRead};
 
@@ -45,7 +45,7 @@ enum Body {
 
 // The four head lines.
 fn read_head(s: &[u8]) -> Head
-    ensures { λ r. ⌜ HeadRead (headOf (now (s .entry))) (now (s .entry)) r ⌝ }
+    ensures { λ r. ⌜ HeadRead (headLines (now (s .entry))) (now (s .entry)) r ⌝ }
 {
     let Number::Read { value: p, next: i } = reading::read_field(s, 0, &MODULUS) else {
         return Head::Wrong(1);
@@ -65,7 +65,7 @@ fn read_head(s: &[u8]) -> Head
 // The cells, after which nothing may follow. The first of them is line 5.
 fn read_matrix(s: &[u8], at: usize, n: usize, m: usize, d: usize, room: &mut [u16]) -> Body
     requires { ⌜ CellsAsked (now s) at n m d (now room) ⌝ }
-    ensures { λ r. ⌜ MatrixRead (cellsOf n m d (drop at (now (s .entry)))) (now (room .exit)) r ⌝ }
+    ensures { λ r. ⌜ MatrixRead (cellLines n m d (drop at (now (s .entry)))) (now (room .exit)) r ⌝ }
 {
     match reading::read_cells(s, at, n, m, d, room) {
         Cells::Wrong(c) => Body::Wrong(5 + c),

@@ -46,6 +46,10 @@ few-digits (suc k) v h = case-le 10 v
 pub five-digits : (v : ℕ) → v ≤ 65535 → length (decimal v) ≤ 5
 five-digits v h = few-digits 4 v (omega arith)
 
+-- a number of 64 bits
+pub twenty-digits : (v : ℕ) → v < 18446744073709551616 → length (decimal v) ≤ 20
+twenty-digits v h = few-digits 19 v (omega arith)
+
 -- ## The digits that a text begins with
 
 pub digits-more : (b : ℕ) (s : List ℕ) → isDigit b ≡ true → digitsOf (b ∷ s) ≡ b ∷ digitsOf s

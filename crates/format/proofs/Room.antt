@@ -11,18 +11,11 @@ use lib.Dec.{eqb}
 use Rattle.format.specs.Number.{decimalBy, decimal}
 use Rattle.format.specs.Line.{bytes, cellKey, row, line, lines}
 use Rattle.format.specs.Answer.{refusalText, countsText, resultText, determinantText, answerText, outputRoom}
-use Rattle.format.proofs.Number.{five-digits}
+use Rattle.format.proofs.Number.{five-digits, twenty-digits}
 
 -- numbers of at most five digits
 pub record Writable (l : List ℕ) : Type 0 where
   pub small : (i : ℕ) → i < length l → getD l i 0 ≤ 65535
-
-pub writable-one : (v : ℕ) → v ≤ 65535 → Writable (v ∷ [])
-writable-one v h = record { small = only }
-  where
-    only : (i : ℕ) → i < 1 → getD (v ∷ []) i 0 ≤ 65535
-    only zero l = h
-    only (suc i) l = absurd (omega arith)
 
 writable-take : (n : ℕ) (l : List ℕ) → Writable l → Writable (take n l)
 writable-take n l h = record {
@@ -60,22 +53,24 @@ lines-length key four width (suc count) c l h all =
     rw (length-append (line (key c) (take width l)) (lines key width count (suc c) (drop width l)))
     (omega (arith, first, others, suc-mul count (width * 6 + 4)))
 
--- a line with one number
-field-length : (key : List ℕ) (v : ℕ) → v ≤ 65535 → length (line key (v ∷ [])) ≤ length key + 6
-field-length key v h = line-length key (v ∷ []) (writable-one v h)
+-- a line with one number of 64 bits
+field-length : (key : List ℕ) (v : ℕ) → v < 18446744073709551616 → length (line key (v ∷ [])) ≤ length key + 21
+unfolding row
+field-length key v h = simp length-append (omega (arith, twenty-digits v h))
 
 done-length : length (line (bytes "answer=") (0 ∷ [])) ≡ 9
 unfolding row decimal decimalBy
 done-length = refl
 
-pub refusal-length : (number place : ℕ) → number ≤ 65535 → place ≤ 65535 → length (refusalText number place) ≤ outputRoom
+pub refusal-length : (number place : ℕ) → number < 18446744073709551616 → place < 18446744073709551616
+    → length (refusalText number place) ≤ outputRoom
 refusal-length number place h k = rw (length-append (line (bytes "answer=") (number ∷ [])) (line (bytes "place=") (place ∷ [])))
     (omega (arith, field-length (bytes "answer=") number h, field-length (bytes "place=") place k))
 
 -- the numbers of an answer, and how many they are
 pub record Answerable (rank steps n m d : ℕ) (r det : List ℕ) : Type 0 where
-  pub rank-small : rank ≤ 65535
-  pub steps-small : steps ≤ 65535
+  pub rank-fits : rank < 18446744073709551616
+  pub steps-fits : steps < 18446744073709551616
   pub rows : n ≤ 8
   pub columns : m ≤ 8
   pub degree : d ≤ 63
@@ -108,8 +103,8 @@ module _ (rank steps n m d : ℕ) (r det : List ℕ) (h : Answerable rank steps 
     length-append (line (bytes "rank=") (rank ∷ [])) (line (bytes "steps=") (steps ∷ [])),
     length-append (resultText n m d r) (determinantText n m det),
     done-length,
-    field-length (bytes "rank=") rank (h .rank-small),
-    field-length (bytes "steps=") steps (h .steps-small),
+    field-length (bytes "rank=") rank (h .rank-fits),
+    field-length (bytes "steps=") steps (h .steps-fits),
     result-length,
     determinant-length,
   )

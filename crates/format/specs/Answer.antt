@@ -25,7 +25,7 @@ determinantText n m det = cond (eqb n m) (line (bytes "det=") det) []
 abbrev pub answerText : (rank steps n m d : ℕ) (r det : List ℕ) → List ℕ
 answerText rank steps n m d r det = countsText rank steps ++ (resultText n m d r ++ determinantText n m det)
 
--- Room for every answer: 9 bytes for `answer=0`, 11 for `rank=`, 12 for `steps=`, 388 for each of 64 cells, and 3,034 for `det=`
--- with 505 numbers.
+-- Room for every answer: 9 bytes for `answer=0`, 26 for `rank=` and 27 for `steps=` with a number of 64 bits, 388 for each of 64
+-- cells, and 3,034 for `det=` with 505 numbers.
 abbrev pub outputRoom : ℕ
-outputRoom = 27898
+outputRoom = 27928

@@ -11,8 +11,8 @@ abbrev pub headKeys : List (List ℕ)
 headKeys = bytes "p=" ∷ bytes "n=" ∷ bytes "m=" ∷ bytes "d=" ∷ []
 
 -- the four head lines that a text begins with, each with one number
-abbrev pub headOf : List ℕ → Lines
-headOf s = readLines (λ c. readLine (getD headKeys c []) 1) 4 0 s
+abbrev pub headLines : List ℕ → Lines
+headLines s = readLines (λ c. readLine (getD headKeys c []) 1) 4 0 s
 
 -- the numbers that were read, and the text that follows
 abbrev pub numbersOf : Lines → List ℕ
@@ -24,21 +24,21 @@ restOf (read l s) = s
 restOf (wrong c) = []
 
 -- p, n, m and d, where the head lines were read
-abbrev pub modulusOf : Lines → ℕ
-modulusOf head = getD (numbersOf head) 0 0
+abbrev pub headModulus : Lines → ℕ
+headModulus head = getD (numbersOf head) 0 0
 
-abbrev pub rowsOf : Lines → ℕ
-rowsOf head = getD (numbersOf head) 1 0
+abbrev pub headRows : Lines → ℕ
+headRows head = getD (numbersOf head) 1 0
 
-abbrev pub columnsOf : Lines → ℕ
-columnsOf head = getD (numbersOf head) 2 0
+abbrev pub headColumns : Lines → ℕ
+headColumns head = getD (numbersOf head) 2 0
 
-abbrev pub degreeOf : Lines → ℕ
-degreeOf head = getD (numbersOf head) 3 0
+abbrev pub headDegree : Lines → ℕ
+headDegree head = getD (numbersOf head) 3 0
 
 -- the lines of an n by m matrix, each with d+1 numbers
-abbrev pub matrixOf : (n m d : ℕ) → List ℕ → Lines
-matrixOf n m d s = readLines (λ c. readLine (cellKey (bytes "a11=") m c) (d + 1)) (n * m) 0 s
+abbrev pub matrixLines : (n m d : ℕ) → List ℕ → Lines
+matrixLines n m d s = readLines (λ c. readLine (cellKey (bytes "a11=") m c) (d + 1)) (n * m) 0 s
 
 -- "Nothing follows the last line": what does follow is line `count`, which isn't as said
 abbrev pub ended : (count : ℕ) → Lines → Lines
@@ -47,12 +47,12 @@ ended count (read l (b ∷ s)) = wrong count
 ended count (wrong c) = wrong c
 
 -- all that follows the head
-abbrev pub cellsOf : (n m d : ℕ) → List ℕ → Lines
-cellsOf n m d s = ended (n * m) (matrixOf n m d s)
+abbrev pub cellLines : (n m d : ℕ) → List ℕ → Lines
+cellLines n m d s = ended (n * m) (matrixLines n m d s)
 
 -- the same after these head lines
-abbrev pub bodyOf : (head : Lines) → Lines
-bodyOf head = cellsOf (rowsOf head) (columnsOf head) (degreeOf head) (restOf head)
+abbrev pub bodyLines : (head : Lines) → Lines
+bodyLines head = cellLines (headRows head) (headColumns head) (headDegree head) (restOf head)
 
 -- all the lines are as said
 abbrev pub AsSaid : Lines → Type 0

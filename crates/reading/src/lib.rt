@@ -7,7 +7,7 @@ ghost use Prim.Native.Nat.{_+_, _*_, _≤_};
 ghost use lib.ListN.{length, drop};
 ghost use Rattle.format.specs.Number.{isDigit, digitsOf, valueOf, isPlain, number};
 ghost use Rattle.format.specs.Line.{mark, startsWith, numbers, readLine};
-ghost use Rattle.format.specs.File.{matrixOf};
+ghost use Rattle.format.specs.File.{matrixLines};
 ghost use Rattle.reading.specs.Read.{DigitsAt, NumberRead, LineRead, FieldRead, CellsAsked, CellsRead};
 
 // What stands at an index, and the index after it.
@@ -190,7 +190,7 @@ pub fn read_field(s: &[u8], at: usize, key: &[u8]) -> Number
 // The lines of an n by m matrix, up to the first that isn't as said.
 pub fn read_cells(s: &[u8], at: usize, n: usize, m: usize, d: usize, room: &mut [u16]) -> Cells
     requires { ⌜ CellsAsked (now s) at n m d (now room) ⌝ }
-    ensures { λ r. ⌜ CellsRead (matrixOf n m d (drop at (now (s .entry)))) (n * m) (now (s .entry)) (now (room .exit)) r ⌝ }
+    ensures { λ r. ⌜ CellsRead (matrixLines n m d (drop at (now (s .entry)))) (n * m) (now (s .entry)) (now (room .exit)) r ⌝ }
 {
     let count = n * m;
     let width = d + 1;

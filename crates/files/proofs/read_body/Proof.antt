@@ -11,7 +11,7 @@ use Rattle.refusals.specs.Refused.{Numbers}
 use Rattle.refusals.specs.Part.{OfNumbers, OfCoefficients}
 use Rattle.refusals.proofs.Verdicts.{matrix-few}
 use Rattle.format.specs.Line.{read}
-use Rattle.format.specs.File.{cellsOf}
+use Rattle.format.specs.File.{cellLines}
 use Rattle.files.specs.Input.{MatrixRead}
 use Rattle.files.proofs.Table.{body-numbers, body-wrong, body-coefficient, body-matrix}
 use Rattle.files.proofs.read_body.Statement.{statement}
@@ -52,7 +52,7 @@ after-within : (c : tie.After-enum-told2) → places (tested c) ≤ length (afte
 after-within c = simp length-append (omega (arith, new-places c))
 
 cells : (c : tie.After-enum-told2) → let args = start (tested c) .args in
-    cellsOf (args .n) (args .m) (args .d) (drop (args .at) (args .s .now)) ≡ read (take (places (tested c)) (after c)) []
+    cellLines (args .n) (args .m) (args .d) (drop (args .at) (args .s .now)) ≡ read (take (places (tested c)) (after c)) []
 cells c =
     subst (MatrixRead _ _) (c .enum-told2 .given .1) (c .before .before .before .before .read-matrix .ensures)
     ∙ ap (λ (l : List ℕ). read l []) (sym (take-at _ _ (places (tested c)) (new-places c)))

@@ -1,13 +1,13 @@
 use mathlib.Core.Path.{subst}
 use borrow.Author.Needs.{needs}
 use Rattle.files.specs.Input.{HeadRead, HeadTaken}
-use Rattle.format.specs.File.{headOf}
+use Rattle.format.specs.File.{headLines}
 use Rattle.files.proofs.Table.{file-long, file-head, file-body}
 use Rattle.files.proofs.read_file.Statement.{statement}
 use Rattle.files.proofs.read_file.Tie as tie
 
 returns : tie.Need-returns
-returns c = file-long (headOf (c .before .before .before .args .s .now)) (c .if1 .taken)
+returns c = file-long (headLines (c .before .before .before .args .s .now)) (c .if1 .taken)
 
 read-head-requires : tie.Need-read-head-requires
 read-head-requires c κs = search needs
@@ -32,7 +32,7 @@ cast-read-body-4 c = search needs
 
 -- the head's numbers
 taken : (c : tie.After-p) → let s = c .before .before .before .before .before .before .args .s .now in let found = c .p .given .0 in
-    HeadTaken (headOf s) s (found .0) (found .1 .0) (found .1 .1 .0) (found .1 .1 .1 .0) (found .1 .1 .1 .1 .0)
+    HeadTaken (headLines s) s (found .0) (found .1 .0) (found .1 .1 .0) (found .1 .1 .1 .0) (found .1 .1 .1 .1 .0)
 taken c = subst (HeadRead _ _) (c .p .given .1) (c .before .before .read-head .ensures)
 
 read-body-requires : tie.Need-read-body-requires
@@ -43,7 +43,7 @@ read-body-requires c κs =
 returns-2 : tie.Need-returns-2
 returns-2 c =
     let call = c .before .before .before in
-    file-head (headOf (call .before .before .before .before .args .s .now)) (call .before .if1 .left)
+    file-head (headLines (call .before .before .before .before .args .s .now)) (call .before .if1 .left)
     (subst (HeadRead _ _) (c .before .line .given .1) (call .read-head .ensures))
 
 same-length : tie.Need-same-length

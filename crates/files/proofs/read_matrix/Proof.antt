@@ -5,7 +5,7 @@ use native.Mathlib.Omega.{arith}
 use Prim.Native.Nat.{_*_, _≤_}
 use lib.ListN.{drop}
 use Rattle.format.specs.Line.{Lines}
-use Rattle.format.specs.File.{matrixOf}
+use Rattle.format.specs.File.{matrixLines}
 use Rattle.reading.specs.Read.{CellsRead, TookCells, Missed}
 use Rattle.files.proofs.Ending.{ended-wrong, ended-extra, ended-here}
 use Rattle.files.proofs.read_matrix.Statement.{statement}
@@ -19,7 +19,7 @@ few c = mul-le-mul {n₁ = start c .args .n} {m₁ = start c .args .m} {n₂ = 8
 
 -- the lines of the matrix, and what was found of them: one is wrong, or all were read
 abbrev matrix : tie.After-read-cells → Lines
-matrix c = let args = start c .args in matrixOf (args .n) (args .m) (args .d) (drop (args .at) (args .s .now))
+matrix c = let args = start c .args in matrixLines (args .n) (args .m) (args .d) (drop (args .at) (args .s .now))
 
 missed : (c : tie.After-c) → let call = c .before .before .before .before in
     Missed (matrix call) (start call .args .n * start call .args .m) (c .c .given .0 .0)
