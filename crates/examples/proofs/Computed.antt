@@ -1,51 +1,31 @@
 -- The answers to a call that is not refused, and the other values of its matrix, worked out by the definitions.
 use mathlib.Core.Path.{_≡_, refl, sym, ap, subst}
 use mathlib.Core.Bool.{false}
-use mathlib.Core.Logic.{Dec·and}
 use mathlib.Core.List.{List, []}
 use Prim.Native.Nat.{ℕ, suc, _+_, _-_, _*_, _≤_, _<_}
 use native.Mathlib.Bridge.{le-prop}
-use native.Mathlib.Decide.{ℕ-discrete, decLt, decLe}
 use native.Mathlib.Nat as N
 use native.Mathlib.Omega.{arith}
 use lib.ListN.{length}
 use Rattle.algebra.specs.Field.{Field}
 use Rattle.algebra.specs.Prime.{Prime}
 use Rattle.algebra.specs.Residue.{Zp}
-use Rattle.algebra.specs.Cases.{if-equal}
-use Rattle.algebra.specs.Matrix.{setrow, identity}
 use Rattle.algebra.specs.Polynomial.{Below}
-use Rattle.algebra.specs.Series.{_+ₛ_, _*ₛ_, mono}
-use Rattle.algebra.specs.Sum.{sum}
 use Rattle.algebra.proofs.Primality.{prime-prop}
 use Rattle.algebra.proofs.PrimeField.{zp-field}
-use Rattle.algebra.proofs.Residue.{zp-ring, zp-dec}
 use Rattle.algebra.proofs.Series.{series}
-use Rattle.lists.specs.Change.{imap}
-use Rattle.lists.specs.Last.{lastNonzero}
-use Rattle.lists.specs.Total.{total}
 use Rattle.lattice.specs.Row.{Row}
 use Rattle.lattice.specs.PolynomialMatrix.{AllBounded}
 use Rattle.lattice.proofs.Coefficients.{below-more}
-use Rattle.reduction.specs.Pivot.{top, value, values, index, height}
-use Rattle.reduction.specs.Pair.{ordered-by, target}
-use Rattle.reduction.specs.Least.{least}
-use Rattle.reduction.specs.FindPair.{clash-dec, partner-dec, partner, has-partner, find-pair}
+use Rattle.reduction.specs.Pivot.{values, index}
 use Rattle.reduction.specs.Rank.{chosen}
-use Rattle.reduction.specs.Run.{advance-pair}
-use Rattle.reduction.specs.Step.{Carried, begin, factor}
-use Rattle.reduction.proofs.Process.{ends, within, iterate}
+use Rattle.reduction.specs.Step.{Carried, begin}
 use Rattle.reduction.proofs.Ending.{reach}
 use Rattle.reduction.proofs.Facts.{reduction-facts}
-use Rattle.popov.specs.Order.{weight, place, row-at}
-use Rattle.popov.specs.SecondKind.{excess, remover, remove}
-use Rattle.popov.specs.FindRemoval.{highest, find-removal}
-use Rattle.popov.proofs.Load.{greatest, load}
-use Rattle.popov.proofs.SecondEnding.{second-reach}
 use Rattle.popov.proofs.Facts.{popov-facts, popov-exists}
 use Rattle.determinant.specs.Determinant.{det}
 use Rattle.determinant.proofs.Degree.{det-below}
-use Rattle.pivots.specs.Pivot.{valueOf, valuesOf}
+use Rattle.pivots.specs.Pivot.{valuesOf}
 use Rattle.refusals.specs.Answering.{Told}
 use Rattle.refusals.specs.Refused.{refusalTable, reductionSizes}
 use Rattle.refusals.proofs.Answering.{InOrder, in-order, answer-done}
@@ -121,7 +101,6 @@ module _ {p n m d : ℕ} {a : List ℕ} (taken : Taken p n m d a) where
   }
 
   unfoldable pub computed : Answers p n m d a
-  unfolding zp-field zp-ring zp-dec ℕ-discrete decLt decLe Dec·and series _+ₛ_ _*ₛ_ mono sum if-equal setrow identity matrixOf imap total lastNonzero top value index height factor least clash-dec partner-dec partner has-partner find-pair ordered-by target advance-pair reach iterate within ends weight place row-at excess remover remove highest find-removal greatest load second-reach popov-exists det valueOf listing written
   computed =
       let (steps, t, run) = reach K n m w (begin (K .ring) A) bounded in
       let (first, second, s, run′) = popov-exists K n m w A columns places bounded in

@@ -1,4 +1,5 @@
+pub mod Opened
 pub mod Listing
 pub mod Verdict
 pub mod Computed
-pub mod Worked
+pub mod WExamples

@@ -84,7 +84,7 @@ coefficients p a = go (least (length a) (λ i. p ≤ getD a i 0) (λ i. decLe p 
 
 -- the number and the place, worked out
 unfoldable pub verdict : (wanted : Bool) (p n m d : ℕ) (a : List ℕ) → Says (λ sizes. refusalTable wanted p n m d sizes sizes a)
-unfolding zero-place row sizes-right accepted in-shape in-square coefficients least Dec·and decLe decLt ℕ-discrete
+unfolding zero-place row sizes-right accepted in-shape in-square coefficients
 verdict wanted p n m d a =
     row 1 (accepted p)
     (row 2 (in-shape n m)

@@ -7,7 +7,7 @@ use Rattle.refusals.specs.Answering.{Told}
 use Rattle.refusals.specs.Refused.{refusalTable}
 use Rattle.examples.specs.Answers.{Answers, ArePivots, IsDeterminant}
 
--- what an example may name of the answers
+-- what an example may name of the answers: of the reduction the rank, the count, R, U and V, and of the Popov form the two counts and P
 pub data Name : Type 0 where
   Rank : Name
   Steps : Name
@@ -18,6 +18,7 @@ pub data Name : Type 0 where
   SecondKind : Name
   PopovForm : Name
 
+-- the list that has it; a number stands alone
 abbrev pub named : {p n m d : ℕ} {a : List ℕ} → Answers p n m d a → Name → List ℕ
 named x Rank = x .rank ∷ []
 named x Steps = x .steps ∷ []
@@ -28,8 +29,8 @@ named x FirstKind = x .first ∷ []
 named x SecondKind = x .second ∷ []
 named x PopovForm = x .popov-r
 
--- an example tells p, n, m, d and the input, and with them some of the answers, the pivot indices, the determinant of a square matrix,
--- or the number and the place of the refusal table
+-- An example tells p, n, m, d and the input a, and what is wanted of them: some of the answers, the pivot indices, the determinant of a
+-- square matrix, or the number and the place that a call returns.
 pub data Example : Type 0 where
   answers : (p n m d : ℕ) (a : List ℕ) (values : List (Name × List ℕ)) → Example
   pivots : (p n m d : ℕ) (a l : List ℕ) → Example
@@ -41,8 +42,8 @@ abbrev pub Every : {A : Type 0} → (A → Type 0) → List A → Type 0
 Every P [] = Unit
 Every P (x ∷ l) = P x × Every P l
 
--- the definitions give the values of an example; a refusal is that of every service, whether a determinant is wanted or not, to which
--- buffers of the lengths that it wants are given
+-- The definitions give the values of an example. Number and place are those of every service, whether a determinant is wanted or not,
+-- whose buffers have the sizes that it wants; the number 0 says that the call is not refused.
 abbrev pub Gives : Example → Type 0
 Gives (answers p n m d a values) = (x : Answers p n m d a) × Every (λ (v : Name × List ℕ). named x (v .0) ≡ v .1) values
 Gives (pivots p n m d a l) = ArePivots p n m d a l

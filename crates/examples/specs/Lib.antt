@@ -1,3 +1,3 @@
 pub mod Answers
 pub mod Example
-pub mod Worked
+pub mod WExamples
