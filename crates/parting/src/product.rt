@@ -2,9 +2,9 @@
 ghost use mathlib.Core.Path.{_≡_};
 ghost use Rattle.residues.specs.Modulus.{Ready};
 ghost use Rattle.parting.specs.Signed.{unitOf, signedProduct, MultiplyAsked};
+use poly::polynomial;
 use residues::Modulus;
 use residues::Residue;
-use poly::polynomial;
 
 // 1, or -1.
 fn unit(negative: bool, md: Modulus) -> Residue
