@@ -15,7 +15,6 @@ use Rattle.lattice.proofs.Coefficients.{below-zero, below-more}
 use Rattle.lists.specs.Skip.{skip}
 use Rattle.lists.proofs.Skip.{skip-fits}
 use Rattle.determinant.specs.Determinant.{minor, sign-at, det}
-use Rattle.determinant.proofs.Linear.{det-suc}
 
 module _ {F : Type 0} (R : CommRing F) where
   infixl 70 _⊛_

@@ -35,7 +35,6 @@ use Rattle.buffers.proofs.Place.{by-rows}
 use Rattle.stepping.specs.Holding.{Holding}
 use Rattle.matrix.specs.Listed.{maskOf}
 use Rattle.matrix.specs.Reduced.{ReducedBy}
-use Rattle.matrix.specs.Answer.{lengths}
 use Rattle.matrix.specs.Popov.{PopovBy}
 use Rattle.examples.specs.Answers.{Answers, ArePivots, IsDeterminant}
 use Rattle.examples.proofs.Listing.{listing, length-listing, getD-listing, holds-listing, written, held-written}

@@ -1,9 +1,9 @@
 -- The definitions that the examples are worked out by, in groups: to unfold a group is to unfold every definition of its line.
 use mathlib.Core.Logic.{Dec·and}
-use native.Mathlib.Decide.{ℕ-discrete, decLe, decLt}
+use native.Mathlib.Decide.{ℕ-discrete, decLt}
 use Rattle.algebra.specs.Cases.{if-equal}
 use Rattle.algebra.specs.Matrix.{setrow, identity}
-use Rattle.algebra.specs.Series.{_+ₛ_, _*ₛ_, mono}
+use Rattle.algebra.specs.Series.{_*ₛ_, mono}
 use Rattle.algebra.specs.Sum.{sum}
 use Rattle.algebra.proofs.PrimeField.{zp-field}
 use Rattle.algebra.proofs.Series.{series}
@@ -28,11 +28,11 @@ use Rattle.popov.proofs.SecondEnding.{second-reach}
 use Rattle.popov.proofs.Facts.{popov-exists}
 
 unfoldable pub decisions : Unit {0}
-unfolding ℕ-discrete decLe decLt Dec·and least
+unfolding ℕ-discrete decLt Dec·and least
 decisions = tt
 
 unfoldable pub arithmetic : Unit {0}
-unfolding zp-field series _+ₛ_ _*ₛ_ mono sum if-equal setrow identity det
+unfolding zp-field series _*ₛ_ mono sum if-equal setrow identity det
 arithmetic = tt
 
 unfoldable pub buffers : Unit {0}

@@ -1,5 +1,5 @@
 -- What the refusal table says, worked out.
-use mathlib.Core.Path.{_≡_, refl, subst}
+use mathlib.Core.Path.{_≡_, refl}
 use mathlib.Core.Bool.{Bool, true, false}
 use mathlib.Core.Logic.{_⊎_, inl, inr, Dec·and}
 use mathlib.Core.List.{List, [], _∷_}
@@ -8,7 +8,6 @@ use native.Mathlib.Decide.{ℕ-discrete, decLe, decLt}
 use native.Mathlib.Nat as N
 use native.Mathlib.Omega.{arith}
 use lib.ListN.{length, getD}
-use Rattle.algebra.specs.Prime.{Prime}
 use Rattle.algebra.proofs.Cases.{case-le}
 use Rattle.algebra.proofs.Primality.{by-root}
 use Rattle.residues.specs.Modulus.{largest, Accepted}
