@@ -9,3 +9,5 @@ pub mod SingleStep
 pub mod PopovFacts
 pub mod Finishing
 pub mod PopovService
+pub mod DeterminantService
+pub mod DeterminantFacts

@@ -1,9 +1,8 @@
 -- The loop of the reduction: what is true of the buffers before every step and after the last.
-use mathlib.Core.Path.{_≡_, sym, _∙_, ap, ap₂, subst}
+use mathlib.Core.Path.{_≡_, sym, ap, subst}
 use mathlib.Core.List.{List}
 use Prim.Native.Nat.{ℕ, suc, _+_, _-_, _*_, _≤_, _<_}
 use native.Mathlib.Omega.{arith}
-use native.Mathlib.Decide.{decLt}
 use native.Mathlib.Nat as N
 use lib.ListN.{length, getD}
 use Rattle.algebra.specs.Field.{Field}
@@ -16,7 +15,7 @@ use Rattle.algebra.proofs.Series.{series}
 use Rattle.lattice.specs.Row.{Row}
 use Rattle.lattice.specs.PolynomialMatrix.{AllBounded}
 use Rattle.lists.specs.Total.{total}
-use Rattle.lists.proofs.Total.{total-same, total-lt}
+use Rattle.lists.proofs.Total.{total-same}
 use Rattle.poly.specs.Polynomial.{Coefficients}
 use Rattle.buffers.specs.Place.{place}
 use Rattle.buffers.specs.Held.{Held, matrixOf}
@@ -25,52 +24,21 @@ use Rattle.buffers.proofs.Place.{by-rows}
 use Rattle.buffers.proofs.Held.{held-matrixOf, held-bounded}
 use Rattle.buffers.proofs.Diagonal.{held-identity}
 use Rattle.rows.specs.Asked.{Short}
-use Rattle.reduction.specs.Pivot.{value, values, height, Clash}
-use Rattle.reduction.specs.Pair.{Pair, NoPair, ordered-by, target, Reducing}
+use Rattle.reduction.specs.Pivot.{value, values, height}
+use Rattle.reduction.specs.Pair.{Pair, NoPair, target, Reducing}
 use Rattle.reduction.specs.Step.{Carried, begin, advance}
 use Rattle.reduction.specs.Process.{halt, more}
 use Rattle.reduction.specs.Run.{advance-pair, Runs}
 use Rattle.reduction.proofs.Index.{height-pos}
-use Rattle.reduction.proofs.Pair.{target-reducing}
-use Rattle.reduction.proofs.Lowering.{Lowered, value-le}
+use Rattle.reduction.proofs.Pair.{pair-reducing, no-pair-same, pair-same}
 use Rattle.reduction.proofs.Degrees.{D, spent-since, Narrow, narrow-start}
 use Rattle.pivots.specs.Pivot.{valuesOf, degreesOf, Pivots}
 use Rattle.stepping.specs.Holding.{Holding}
 use Rattle.stepping.specs.Move.{FirstMove}
 use Rattle.matrix.specs.Reduced.{ReducedBy}
 use Rattle.stepping.proofs.Value.{value-held}
-use Rattle.stepping.proofs.Moving.{height-is, move-lowers, move-narrow, move-holding}
+use Rattle.stepping.proofs.Moving.{height-is, step-falls, move-narrow, move-holding}
 use Rattle.stepping.proofs.Short.{u-short, v-short, spent-fits}
-
--- values that agree on the n rows have the same pairs
-module _ (n m : ℕ) (v v′ : ℕ → ℕ) (e : (i : ℕ) → i < n → v i ≡ v′ i) where
-  clash-back : (i j : ℕ) → i < n → j < n → Clash m (v′ i) (v′ j) → Clash m (v i) (v j)
-  clash-back i j li lj c = rw (e i li, e j lj) c
-
-  pub no-pair-same : NoPair n m v → NoPair n m v′
-  no-pair-same h i j l lj c = h i j l lj (clash-back i j (omega arith) lj c)
-
-  pub pair-same : (q : Pair n m v) (x : ℕ × ℕ) → target m v (q .a) (q .b) ≡ x → (q′ : Pair n m v′) × (target m v′ (q′ .a) (q′ .b) ≡ x)
-  unfolding target
-  pair-same q x is =
-      let o = q .ordered in
-      let f = q .fits in
-      let la : q .a < n = omega arith in (
-        record {
-          a = q .a;
-          b = q .b;
-          ordered = o;
-          fits = f;
-          clash = rw (← e (q .a) la, ← e (q .b) f) (q .clash);
-          lowest-a = λ i j l lj s c. q .lowest-a i j l lj s (clash-back i j (omega arith) s c);
-          lowest-b = λ j l s c. q .lowest-b j l s (clash-back (q .a) j la (omega arith) c);
-        },
-        ap₂ (λ (y z : ℕ). ordered-by (decLt (height m z) (height m y)) (q .a) (q .b)) (sym (e (q .a) la)) (sym (e (q .b) f)) ∙ is,
-      )
-
--- the rows l and k of a pair are such as a step reduces
-pub loop-reducing : {n m : ℕ} {v : ℕ → ℕ} {l k : ℕ} (q : Pair n m v) → target m v (q .a) (q .b) ≡ (l, k) → Reducing n m v l k
-loop-reducing {n} {m} {v} q e = subst (λ (x : ℕ × ℕ). Reducing n m v (x .0) (x .1)) e (target-reducing n m v q)
 
 -- what is true after `count` steps on the matrix in a: the buffers hold a state t within the bounds on the degrees,
 -- and the steps that lead on from t lead on from the beginning, `count` more of them
@@ -141,7 +109,7 @@ module _ {p n m w : ℕ} {a : List ℕ} (input : Input p n m w a) (P : Prime p) 
         the-pair = pair-same n m _ _ agree q (l, k) e
 
         reducing : Reducing n m (values K m w R) l k
-        reducing = loop-reducing (the-pair .0) (the-pair .1)
+        reducing = pair-reducing (the-pair .0) (the-pair .1)
 
         applied : advance-pair K n m w (inv .t) (the-pair .0) ≡ t′
         unfolding advance-pair
@@ -149,9 +117,6 @@ module _ {p n m w : ℕ} {a : List ℕ} (input : Input p n m w a) (P : Prime p) 
 
         holds : Holding p n m w r′ u′ v′ t′
         holds = move-holding p P n m w (input .columns) A bounded (input .places) r u v indices degrees r′ u′ v′ (inv .t) (inv .holding) (inv .narrow) pivots l k reducing d
-
-        lowers : Lowered K n m w R l k
-        lowers = move-lowers p P n m w (input .columns) A bounded (input .places) r u v indices degrees r′ u′ v′ (inv .t) (inv .holding) (inv .narrow) pivots l k reducing d
 
         pub loop-turn : LoopAt p P some n m w a r′ u′ v′ (count + 1)
         loop-turn = record {
@@ -167,12 +132,7 @@ module _ {p n m w : ℕ} {a : List ℕ} (input : Input p n m w a) (P : Prime p) 
 
         -- the sum of the values falls
         pub loop-falls : total n (valuesOf m w r′) < total n (valuesOf m w r)
-        loop-falls = total-lt n l _ _ (reducing .l-fits)
-            (omega (arith, new l (reducing .l-fits), agree l (reducing .l-fits), lowers .lower))
-            (λ i li. omega (arith, new i li, agree i li, value-le K n m w R l k lowers i))
-          where
-            new : (i : ℕ) → i < n → value K m w (t′ .R i) ≡ valuesOf m w r′ i
-            new i li = value-held p P n m w (holds .R) (input .columns) i li
+        loop-falls = step-falls p P n m w (input .columns) r indices degrees R (inv .holding .R) pivots l k reducing (holds .R)
 
       -- `spent` is what all degrees have lost since a
       module _ (spent : ℕ) (lost : spent + total n (λ i. getD degrees i 0 - 1) ≡ total n (degreesOf m w a)) where

@@ -2,7 +2,7 @@
 use mathlib.Core.Path.{_≡_, refl, ap, _∙_}
 use mathlib.Core.Logic.{_≢_}
 use mathlib.Core.List.{List}
-use Prim.Native.Nat.{ℕ, zero, suc, _+_, _-_, _*_, _≤_, _<_}
+use Prim.Native.Nat.{ℕ, _+_, _-_, _*_, _≤_, _<_}
 use native.Mathlib.Nat as N
 use native.Mathlib.Omega.{arith}
 use native.Mathlib.Decide.{ℕ-discrete}
@@ -11,9 +11,9 @@ use lib.Seq.{getD-set-other}
 use Rattle.algebra.specs.Prime.{Prime}
 use Rattle.lists.specs.Total.{total}
 use Rattle.lists.proofs.Total.{total-same, total-change}
-use Rattle.reduction.specs.Pivot.{index}
 use Rattle.reduction.specs.Pair.{Reducing}
 use Rattle.reduction.proofs.Index.{clash-second}
+use Rattle.reduction.proofs.Pair.{pair-reducing}
 use Rattle.pivots.specs.Pair.{NextAsked, IsNextOf}
 use Rattle.pivots.specs.Pivot.{Pivots, leastDegree}
 use Rattle.pivots.specs.declared.pair.Next.the-variants.{Nothing, Rows}
@@ -21,17 +21,12 @@ use Rattle.stepping.specs.Asked.{AdvanceAsked, Advanced}
 use Rattle.matrix.specs.Running.{RunAsked, Ran}
 use Rattle.stepping.proofs.Following.{renew-asked}
 use Rattle.pivots.proofs.LeastDegree.{least-below}
+use Rattle.pivots.proofs.Next.{pivots-asked}
 use Rattle.pivots.specs.Pivot.{valuesOf, degreesOf}
 use Rattle.stepping.proofs.Value.{values-total}
 use Rattle.stepping.proofs.Short.{holding-matrices}
-use Rattle.matrix.proofs.Loop.{Input, LoopAt, loop-reducing, loop-start, loop-last, loop-turn, loop-falls, row-room, row-short, column-short}
+use Rattle.matrix.proofs.Loop.{Input, LoopAt, loop-start, loop-last, loop-turn, loop-falls, row-room, row-short, column-short}
 use Rattle.stepping.proofs.RowsOf.{height-under, list-short, plan-asked, size-after, pivots-after}
-
--- a pivot index is a column or 0
-pub index-most : (m v : ℕ) → 0 < m → index m v ≤ m
-unfolding index
-index-most m zero columns = omega arith
-index-most m (suc x) columns = N.mod-lt _ columns
 
 -- the buffers keep their lengths
 pub record SameLengths (r₀ u₀ v₀ spare₀ index₀ degree₀ r u v spare indices degrees : List ℕ) : Type 0 where
@@ -90,10 +85,7 @@ module _ {p reciprocal n m w : ℕ} {a u₀ v₀ spare₀ index₀ degree₀ : L
     count-fits = omega (arith, inv .budget, values-total m w a n, asked .small, ap (λ (x : ℕ). n * x) (N.mul-comm w m))
 
     pub next-asked : NextAsked n indices degrees
-    next-asked = record {
-      indices-are = record { room = index-room; few = λ i l. omega (arith, inv .pivots .row i l .index-is, index-most m (valuesOf m w r i) (asked .columns), asked .columns-most) };
-      degrees-room = degree-room;
-    }
+    next-asked = pivots-asked n m (valuesOf m w r) indices degrees (inv .pivots) (asked .columns) (asked .columns-most) index-room degree-room
 
     pub running-stop : IsNextOf n m (valuesOf m w r) Nothing → Ran p n m w count a r u v indices
     running-stop none = record {
@@ -112,7 +104,7 @@ module _ {p reciprocal n m w : ℕ} {a u₀ v₀ spare₀ index₀ degree₀ r u
   open Turn turn using (asked, inv, next)
 
   reducing : Reducing n m (valuesOf m w r) l k
-  reducing = loop-reducing (next .0) (next .1)
+  reducing = pair-reducing (next .0) (next .1)
 
   l-fits : l < n
   l-fits = reducing .l-fits

@@ -19,9 +19,10 @@ use Rattle.reduction.specs.Pivot.{values}
 use Rattle.reduction.specs.Pair.{Pair, NoPair, target, Reducing}
 use Rattle.reduction.specs.Step.{reduce-row}
 use Rattle.reduction.specs.Run.{step}
+use Rattle.reduction.proofs.Pair.{pair-reducing, no-pair-same, pair-same}
 use Rattle.reduction.proofs.SingleStep.{step-pair, step-none}
 use Rattle.pivots.specs.Pair.{NextAsked, IsNextOf}
-use Rattle.pivots.specs.Pivot.{Pivots}
+use Rattle.pivots.specs.Pivot.{valuesOf, Pivots}
 use Rattle.pivots.specs.declared.pair.Next.the-variants.{Rows}
 use Rattle.stepping.specs.Move.{Factor}
 use Rattle.stepping.specs.Asked.{PlanAsked}
@@ -30,10 +31,8 @@ use Rattle.matrix.specs.Single.{Stepped}
 use Rattle.stepping.proofs.Value.{value-held}
 use Rattle.stepping.proofs.Moving.{step-held}
 use Rattle.stepping.proofs.Following.{row-asked}
-use Rattle.pivots.specs.Pivot.{valuesOf}
-use Rattle.matrix.proofs.Loop.{no-pair-same, pair-same, loop-reducing}
+use Rattle.pivots.proofs.Next.{pivots-asked}
 use Rattle.stepping.proofs.RowsOf.{list-short, plan-asked}
-use Rattle.matrix.proofs.Running.{index-most}
 
 module _ {p reciprocal n m w : ℕ} {r : List ℕ} (asked : InputAsked p reciprocal n m w r) where
   -- the matrix that r holds
@@ -75,15 +74,13 @@ module _ {p reciprocal n m w : ℕ} {r : List ℕ} (asked : InputAsked p recipro
 
   -- what the choice of the rows asks
   pub choice-asked : {indices degrees : List ℕ} → Pivots n m (valuesOf m w r) indices degrees → length indices ≡ 8 → length degrees ≡ 8 → NextAsked n indices degrees
-  choice-asked pivots x y = record {
-    indices-are = record { room = eight-room _ x; few = λ i l. omega (arith, pivots .row i l .index-is, index-most m (valuesOf m w r i) (asked .columns), asked .columns-most) };
-    degrees-room = eight-room _ y;
-  }
+  choice-asked {indices} {degrees} pivots x y =
+      pivots-asked n m (valuesOf m w r) indices degrees pivots (asked .columns) (asked .columns-most) (eight-room _ x) (eight-room _ y)
 
   -- rows l and k are to be reduced
   module _ {l k : ℕ} (next : IsNextOf n m (valuesOf m w r) (Rows l k)) where
     reducing : Reducing n m (valuesOf m w r) l k
-    reducing = loop-reducing (next .0) (next .1)
+    reducing = pair-reducing (next .0) (next .1)
 
     -- row k has its place among eight
     pub k-room : k < 8
@@ -107,7 +104,7 @@ module _ {p reciprocal n m w : ℕ} {r : List ℕ} (asked : InputAsked p recipro
               let (q, q-is) = pair-same n m _ _ (agree P some) (next .0) (l, k) (next .1) in
               record {
                 held = subst (Held (by-rows n m w) p r′) (sym (step-rows P some q q-is))
-                    (step-held p P n m w (asked .columns) r indices degrees (A P some) (first P some) pivots l k (loop-reducing q q-is) g added);
+                    (step-held p P n m w (asked .columns) r indices degrees (A P some) (first P some) pivots l k (pair-reducing q q-is) g added);
                 counted = inr (refl, q);
               };
         }

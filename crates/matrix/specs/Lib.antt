@@ -5,3 +5,4 @@ pub mod Answer
 pub mod Facts
 pub mod Single
 pub mod Popov
+pub mod Determinant

@@ -23,7 +23,7 @@ use Rattle.rows.proofs.Written.{none-written, cell-changed, next-written}
 use Rattle.parting.specs.Parting.{CellAsked, CellFilled, PartAsked, Parted}
 
 -- m cells of a column are as long as m cells of a row
-one-column : (m wide : ℕ) → m * (1 * wide) ≡ m * wide
+pub one-column : (m wide : ℕ) → m * (1 * wide) ≡ m * wide
 one-column m wide = ap (λ (x : ℕ). m * x) (omega arith)
 
 -- the place of a coefficient in a column

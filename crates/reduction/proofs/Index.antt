@@ -35,6 +35,12 @@ unfolding height
 height-less m zero = sym (N.zero-div m)
 height-less m (suc x) = omega arith
 
+-- a pivot index is a column or 0
+pub index-most : (m v : ℕ) → 0 < m → index m v ≤ m
+unfolding index
+index-most m zero columns = omega arith
+index-most m (suc x) columns = N.mod-lt _ columns
+
 -- a row with a pivot index is not zero
 pub indexed : (m v : ℕ) → 0 < index m v → 0 < v
 unfolding index

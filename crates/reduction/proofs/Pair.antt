@@ -1,5 +1,5 @@
 -- The pair of a step is determined, and of its rows l and k what `Reducing` says is true.
-use mathlib.Core.Path.{_≡_, ap₂, subst}
+use mathlib.Core.Path.{_≡_, sym, ap₂, subst, _∙_}
 use Prim.Native.Nat.{ℕ, _<_}
 use native.Mathlib.Omega.{arith}
 use native.Mathlib.Decide.{decLt}
@@ -48,3 +48,33 @@ module _ (n m : ℕ) (v : ℕ → ℕ) where
         degrees = omega arith;
         tie = λ e. o;
       }
+
+-- rows l and k are those of a pair
+pub pair-reducing : {n m : ℕ} {v : ℕ → ℕ} {l k : ℕ} (q : Pair n m v) → target m v (q .a) (q .b) ≡ (l, k) → Reducing n m v l k
+pair-reducing {n} {m} {v} q e = subst (λ (x : ℕ × ℕ). Reducing n m v (x .0) (x .1)) e (target-reducing n m v q)
+
+-- values that agree on the n rows have the same pairs
+module _ (n m : ℕ) (v v′ : ℕ → ℕ) (e : (i : ℕ) → i < n → v i ≡ v′ i) where
+  clash-back : (i j : ℕ) → i < n → j < n → Clash m (v′ i) (v′ j) → Clash m (v i) (v j)
+  clash-back i j li lj c = rw (e i li, e j lj) c
+
+  pub no-pair-same : NoPair n m v → NoPair n m v′
+  no-pair-same h i j l lj c = h i j l lj (clash-back i j (omega arith) lj c)
+
+  pub pair-same : (q : Pair n m v) (x : ℕ × ℕ) → target m v (q .a) (q .b) ≡ x → (q′ : Pair n m v′) × (target m v′ (q′ .a) (q′ .b) ≡ x)
+  unfolding target
+  pair-same q x is =
+      let o = q .ordered in
+      let f = q .fits in
+      let la : q .a < n = omega arith in (
+        record {
+          a = q .a;
+          b = q .b;
+          ordered = o;
+          fits = f;
+          clash = rw (← e (q .a) la, ← e (q .b) f) (q .clash);
+          lowest-a = λ i j l lj s c. q .lowest-a i j l lj s (clash-back i j (omega arith) s c);
+          lowest-b = λ j l s c. q .lowest-b j l s (clash-back (q .a) j la (omega arith) c);
+        },
+        ap₂ (λ (y z : ℕ). ordered-by (decLt (height m z) (height m y)) (q .a) (q .b)) (sym (e (q .a) la)) (sym (e (q .b) f)) ∙ is,
+      )

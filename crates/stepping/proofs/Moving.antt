@@ -18,6 +18,8 @@ use Rattle.algebra.proofs.Series.{series}
 use Rattle.lattice.specs.Term.{up}
 use Rattle.lattice.specs.Row.{Row, coef}
 use Rattle.lattice.specs.PolynomialMatrix.{AllBounded}
+use Rattle.lists.specs.Total.{total}
+use Rattle.lists.proofs.Total.{total-lt}
 use Rattle.buffers.specs.Place.{place}
 use Rattle.buffers.specs.Held.{Held}
 use Rattle.buffers.specs.Added.{RowAdded, ColumnAdded}
@@ -29,7 +31,7 @@ use Rattle.reduction.specs.Pair.{Reducing}
 use Rattle.reduction.specs.Step.{Carried, leading, factor, subtract, carry, reduce-row, advance}
 use Rattle.reduction.proofs.Index.{index-less, height-less, height-some, height-bound, clash-first, clash-second}
 use Rattle.reduction.proofs.Pivot.{value-bound, value-lead}
-use Rattle.reduction.proofs.Lowering.{Lowered, lowered}
+use Rattle.reduction.proofs.Lowering.{Lowered, lowered, value-le}
 use Rattle.reduction.proofs.Degrees.{Narrow, narrow-step, u-fits, v-degrees}
 use Rattle.pivots.specs.Pivot.{valuesOf, Pivots}
 use Rattle.stepping.specs.Holding.{Holding}
@@ -116,7 +118,7 @@ module _ (p : ℕ) (P : Prime p) where
 
       -- a step of the first kind on rows l and k
       module _ (l k : ℕ) (x : Reducing n m (values K m w M) l k) where
-        pub lowering : Lowered K n m w M l k
+        lowering : Lowered K n m w M l k
         lowering = lowered K n m w M l k bounded x
 
         k-nonzero : leading K m w (M k) ≢ K .ring .𝟘
@@ -126,17 +128,29 @@ module _ (p : ℕ) (P : Prime p) where
             → Divided p (leading K m w (M l) .val) (leading K m w (M k) .val) (height m (value K m w (M l)) - height m (value K m w (M k))) e c f
         factor-is g = rw (leading-is l (x .l-fits) (clash-first (x .clash)), leading-is k (x .k-fits) (clash-second (x .clash)), ← height-is l (x .l-fits), ← height-is k (x .k-fits)) g
 
-        pub step-held : {e c f : ℕ} → Factor p m w l k r indices degrees e c f → {r′ : List ℕ} → RowAdded p m w f e l k r r′
-            → Held (by-rows n m w) p r′ (reduce-row K m w l k M)
-        unfolding factor
-        step-held g added = row-moved _ _ k-nonzero (factor-is g) n m w l k (x .l-fits) (x .k-fits) h added (lowering .bounded)
+        -- another matrix that follows, where nothing falls outside
+        module _ {e c f : ℕ} (g : Factor p m w l k r indices degrees e c f) where
+          pub step-followed : (m′ w′ : ℕ) {s s′ : List ℕ} {N′ : ℕ → Row (Zp p)} → Held (by-rows n m′ w′) p s N′ → RowAdded p m′ w′ f e l k s s′
+              → AllBounded (K .ring) n m′ w′ (subtract (K .ring) l k (factor K m w (M l) (M k)) N′)
+              → Held (by-rows n m′ w′) p s′ (subtract (K .ring) l k (factor K m w (M l) (M k)) N′)
+          unfolding factor
+          step-followed m′ w′ = row-moved _ _ k-nonzero (factor-is g) n m′ w′ l k (x .l-fits) (x .k-fits)
+
+          pub step-held : {r′ : List ℕ} → RowAdded p m w f e l k r r′ → Held (by-rows n m w) p r′ (reduce-row K m w l k M)
+          step-held added = step-followed m w h added (lowering .bounded)
+
+        -- the sum of the values falls
+        pub step-falls : {r′ : List ℕ} → Held (by-rows n m w) p r′ (reduce-row K m w l k M) → total n (valuesOf m w r′) < total n (valuesOf m w r)
+        step-falls h′ = total-lt n l _ _ (x .l-fits)
+            (omega (arith, value-held p P n m w h′ columns l (x .l-fits), value-held p P n m w h columns l (x .l-fits), lowering .lower))
+            (λ i li. omega (arith, value-held p P n m w h′ columns i li, value-held p P n m w h columns i li, value-le K n m w M l k lowering i))
 
     -- with the transforms
     module _ (A : ℕ → Row (Zp p)) (ab : AllBounded (K .ring) n m w A) (places : 0 < w)
         (r u v indices degrees r′ u′ v′ : List ℕ) (t : Carried (Zp p)) (h : Holding p n m w r u v t) (narrow : Narrow K n m w A t)
         (pivots : Pivots n m (valuesOf m w r) indices degrees)
         (l k : ℕ) (x : Reducing n m (values K m w (t .R)) l k) (d : FirstMove p n m w l k r u v indices degrees r′ u′ v′) where
-      pub move-lowers : Lowered K n m w (t .R) l k
+      move-lowers : Lowered K n m w (t .R) l k
       move-lowers = lowering r indices degrees (t .R) (h .R) pivots l k x
 
       pub move-narrow : Narrow K n m w A (advance K m w l k t)

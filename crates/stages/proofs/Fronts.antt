@@ -1,0 +1,231 @@
+-- One stage after the other, in the front of the buffers.
+use mathlib.Core.Path.{_≡_, refl, sym, ap, subst, _∙_}
+use mathlib.Core.Bool.{false}
+use mathlib.Core.List.{List, _++_}
+use Prim.Native.Nat.{ℕ, suc, _+_, _-_, _*_, _≤_, _<_}
+use native.Mathlib.Nat as N
+use native.Mathlib.Omega.{arith}
+use lib.ListN.{length, getD, take, drop}
+use lib.Seq.{length-front, take-all, take-at, take-append-le, length-take-le}
+use Rattle.algebra.specs.Field.{Field}
+use Rattle.algebra.specs.Polynomial.{Below}
+use Rattle.algebra.specs.Prime.{Prime}
+use Rattle.algebra.specs.Residue.{Zp}
+use Rattle.algebra.proofs.PrimeField.{zp-field}
+use Rattle.algebra.proofs.Series.{series}
+use Rattle.lattice.specs.Row.{Row}
+use Rattle.lattice.proofs.Coefficients.{below-more}
+use Rattle.lists.proofs.Change.{getD-past}
+use Rattle.lists.proofs.Grid.{one-line}
+use Rattle.determinant.proofs.Stage.{stage-last}
+use Rattle.residues.specs.Modulus.{Ready}
+use Rattle.poly.specs.Reading.{Holds}
+use Rattle.buffers.specs.Held.{Held}
+use Rattle.buffers.proofs.Place.{by-rows}
+use Rattle.parting.specs.Signed.{signedProduct, MultiplyAsked}
+use Rattle.parting.proofs.Parting.{column-cell}
+use Rattle.parting.proofs.Signed.{multiply-asked, holds-signed}
+use Rattle.stages.specs.Stage.{StageAsked, Staged}
+use Rattle.stages.specs.Run.{FrontHeld, Rooms, TurnAsked, Turned, RunAsked, Ran}
+
+-- a stage is smaller than the one before it
+smaller : (m w : ℕ) → m * ((m - 1) * w) ≤ suc m * (m * w)
+smaller m w = N.mul-le-mul (N.le-suc m) (N.mul-le-mul-right w (N.sub-le m 1))
+
+fewer : (m wide : ℕ) → m * wide ≤ suc m * wide
+fewer m wide = N.mul-le-mul-right wide (N.le-suc m)
+
+-- the buffers keep their lengths, and a later stage has room where an earlier one had
+rooms-on : {m m′ w wide : ℕ} {r column next spare indices heights r′ column′ next′ spare′ indices′ heights′ : List ℕ} → m′ ≤ m
+    → Rooms m w wide r column next spare indices heights → length r′ ≡ length r → length column′ ≡ length column → length next′ ≡ length next
+    → length spare′ ≡ length spare → length indices′ ≡ length indices → length heights′ ≡ length heights → Rooms m′ w wide r′ column′ next′ spare′ indices′ heights′
+rooms-on {m} {m′} {w} {wide} le rooms r-same column-same next-same spare-same index-same degree-same =
+    let more : suc m′ ≤ suc m = omega arith in
+    let lines : suc m′ * (m′ * w) ≤ suc m * (m * w) = N.mul-le-mul more (N.mul-le-mul-right w le) in
+    let cells : suc m′ * wide ≤ suc m * wide = N.mul-le-mul-right wide more in
+    record {
+      room = record {
+        columns-most = omega (arith, rooms .room .columns-most);
+        places = rooms .room .places;
+        places-most = rooms .room .places-most;
+        row-room = omega (arith, rooms .room .row-room, N.mul-le-mul-right w le);
+        cell-room = omega (arith, rooms .room .cell-room);
+      };
+      widened = rooms .widened;
+      r-room = omega (arith, rooms .r-room);
+      column-room = omega (arith, rooms .column-room);
+      next-room = omega (arith, rooms .next-room);
+      index-room = omega (arith, rooms .index-room);
+      degree-room = omega (arith, rooms .degree-room);
+    }
+
+module _ {p reciprocal m w wide budget : ℕ} {r column next product spare indices heights : List ℕ}
+    (asked : TurnAsked p reciprocal m w wide budget r column next product spare indices heights) where
+  open TurnAsked asked using (rooms)
+
+  pub less-fits : (m * ((m - 1) * w) ≤ length r) × (m * ((m - 1) * w) ≤ length next) × ((m - 1) * w ≤ m * w) × (m * w ≤ length spare)
+  less-fits = (
+    omega (arith, rooms .r-room, smaller m w),
+    omega (arith, rooms .next-room, smaller m w),
+    N.mul-le-mul-right w (N.sub-le m 1),
+    rooms .room .row-room,
+  )
+
+  -- they lie in the buffers still, when the stage has written to their fronts
+  pub r-still : (r′ : List ℕ) → length r′ ≡ length (take (suc m * (m * w)) r) → m * ((m - 1) * w) ≤ length (r′ ++ drop (suc m * (m * w)) r)
+  r-still r′ same = omega (arith, less-fits .0, length-front r r′ (suc m * (m * w)) same)
+
+  pub next-still : (next′ : List ℕ) → length next′ ≡ length (take (m * ((m - 1) * w)) next) → m * ((m - 1) * w) ≤ length (next′ ++ drop (m * ((m - 1) * w)) next)
+  next-still next′ same = omega (arith, less-fits .1, length-front next next′ (m * ((m - 1) * w)) same)
+
+  pub stage-asked : StageAsked p reciprocal m w wide budget (take (suc m * (m * w)) r) (take (suc m * wide) column) (take (m * ((m - 1) * w)) next) product spare indices heights
+  stage-asked = record {
+    ready = asked .ready;
+    prime = asked .prime;
+    columns = asked .columns;
+    room = rooms .room;
+    index-room = rooms .index-room;
+    degree-room = rooms .degree-room;
+    widened = rooms .widened;
+    next-size = length-take-le _ next (less-fits .1);
+    whole = asked .whole;
+    held = asked .held .front;
+  }
+
+  -- the stage is made: its buffers are in front of what else there was
+  module _ {next′ column′ product′ : List ℕ} {left : ℕ}
+      (staged : Staged p m w wide budget left (take (suc m * (m * w)) r) (take (suc m * wide) column) product next′ column′ product′)
+      (next-kept : length next′ ≡ length (take (m * ((m - 1) * w)) next)) (column-kept : length column′ ≡ length (take (suc m * wide) column))
+      (beside : List ℕ) where
+    next-size : length next′ ≡ m * ((m - 1) * w)
+    next-size = next-kept ∙ length-take-le _ next (less-fits .1)
+
+    taken : take (m * ((m - 1) * w)) (next′ ++ beside) ≡ next′
+    taken = take-at next′ beside _ next-size
+
+    -- its columns are put in front of r
+    pub turned : {r′ : List ℕ} → r′ ≡ take (m * ((m - 1) * w)) (next′ ++ beside) → (rest under : List ℕ)
+        → Turned p m w wide budget left r column product (r′ ++ rest) (column′ ++ under) product′
+    turned {r′} is rest under = record {
+      by = λ P whole h.
+          let one-less : suc (m - 1) ≡ m = omega (arith, asked .columns) in
+          let rows : take (suc (m - 1) * ((m - 1) * w)) (r′ ++ rest) ≡ next′ = rw one-less (take-at r′ rest _ (ap length (is ∙ taken) ∙ next-size) ∙ is ∙ taken) in
+          let cells : take (suc (m - 1) * wide) (column′ ++ under) ≡ take (m * wide) column′ = rw one-less (take-append-le (m * wide) column′ under
+          (omega (arith, column-kept, length-take-le (suc m * wide) column (rooms .column-room), fewer m wide))) in
+          record { front = rw (rows, cells) (staged .by P whole (h .front)) };
+    }
+
+-- a polynomial by itself
+held-single : {p w : ℕ} {l : List ℕ} {f : ℕ → Zp p} → length l ≡ w → Holds p l f → Held (by-rows 1 1 w) p l (λ _ _. f)
+held-single {w = w} {l = l} size h = record {
+  size = omega (arith, size);
+  at = λ i j t li lj lt. let i-is : i ≡ 0 = omega arith in let j-is : j ≡ 0 = omega arith in rw (i-is, j-is) (ap (λ (x : ℕ). getD l x 0) (omega arith) ∙ h .at t);
+  beyond = λ i j t li lj past. sym (h .at t) ∙ getD-past l t (omega (arith, size));
+}
+
+-- the stage of no columns
+module _ {p : ℕ} (P : Prime p) {w wide budget : ℕ} (places : 0 < wide) {whole : ℕ → Zp p} {r column product : List ℕ} (fits : wide ≤ length column)
+    (last-one : FrontHeld p P 0 w wide budget whole r column product) where
+  open FrontHeld last-one using (front as held)
+
+  abbrev K : Field (Zp p)
+  K = zp-field p P
+
+  abbrev T : ℕ → Row (Zp p)
+  T = held .rows .T
+
+  entry : Holds p (take wide column) (T 0 0)
+  entry =
+      let one : suc 0 * wide ≡ wide = omega arith in
+      rw (N.zero-mul, one, take-all wide (take wide column) (omega (arith, length-take-le wide column fits))) at (column-cell (held .rows .parted) 0 (omega arith))
+
+  last : (series (K .ring) .mul (held .f) (T 0 0) ≡ whole) × Below (K .ring) (series (K .ring) .mul (held .f) (T 0 0)) (suc (wide - 1))
+  last = stage-last K w (wide - 1) whole (held .rows .stage) refl
+
+  pub last-asked : {reciprocal : ℕ} {spare : List ℕ} → Ready p reciprocal → wide ≤ 512 → wide ≤ length spare → MultiplyAsked p reciprocal product (take wide column) spare
+  last-asked ready few room = multiply-asked p P (held .so-far) entry ready (below-more (K .ring) _ _ _ (omega (arith, held .size)) (last .1))
+      (omega (arith, held .size)) (omega (arith, held .size))
+
+  pub last-held : {reciprocal : ℕ} {spare product′ : List ℕ} → MultiplyAsked p reciprocal product (take wide column) spare
+      → product′ ≡ signedProduct p false product (take wide column) → length product′ ≡ length product → Held (by-rows 1 1 wide) p product′ (λ _ _. whole)
+  last-held asked made same = held-single (same ∙ held .size) (rw (made, ← last .0) (holds-signed p P (held .so-far) entry (asked .product) false))
+
+-- the first budget is within a wide cell
+pub budget-fits : {p reciprocal n w wide : ℕ} {r column next product spare indices heights : List ℕ} → RunAsked p reciprocal n w wide r column next product spare indices heights
+    → n * (w - 1) ≤ 512
+budget-fits asked = omega (arith, asked .held .front .rows .stage .within, asked .rooms .room .places-most)
+
+-- where the loop over the stages stands
+pub record Staging (p reciprocal n w wide : ℕ) (r₀ column₀ next₀ product₀ spare₀ indices₀ heights₀ r column next product spare indices heights : List ℕ)
+    (m budget : ℕ) : Type 0 where
+  pub asked : RunAsked p reciprocal n w wide r₀ column₀ next₀ product₀ spare₀ indices₀ heights₀
+  pub reached : m ≤ n - 1
+  pub by : (P : Prime p) (whole : ℕ → Zp p) → FrontHeld p P (n - 1) w wide (n * (w - 1)) whole r₀ column₀ product₀
+      → FrontHeld p P m w wide budget whole r column product
+  pub r-same : length r ≡ length r₀
+  pub column-same : length column ≡ length column₀
+  pub next-same : length next ≡ length next₀
+  pub product-same : length product ≡ length product₀
+  pub spare-same : length spare ≡ length spare₀
+  pub index-same : length indices ≡ length indices₀
+  pub degree-same : length heights ≡ length heights₀
+
+pub staging-start : {p reciprocal n w wide : ℕ} {r column next product spare indices heights : List ℕ} → RunAsked p reciprocal n w wide r column next product spare indices heights
+    → Staging p reciprocal n w wide r column next product spare indices heights r column next product spare indices heights (n - 1) (n * (w - 1))
+staging-start asked = record {
+  asked = asked;
+  reached = omega arith;
+  by = λ P whole h. h;
+  r-same = refl;
+  column-same = refl;
+  next-same = refl;
+  product-same = refl;
+  spare-same = refl;
+  index-same = refl;
+  degree-same = refl;
+}
+
+module _ {p reciprocal n w wide : ℕ} {r₀ column₀ next₀ product₀ spare₀ indices₀ heights₀ r column next product spare indices heights : List ℕ} {m budget : ℕ}
+    (now : Staging p reciprocal n w wide r₀ column₀ next₀ product₀ spare₀ indices₀ heights₀ r column next product spare indices heights m budget) where
+  open Staging now using (asked)
+
+  rooms : Rooms m w wide r column next spare indices heights
+  rooms = rooms-on (now .reached) (asked .rooms) (now .r-same) (now .column-same) (now .next-same) (now .spare-same) (now .index-same) (now .degree-same)
+
+  here : FrontHeld p (asked .prime) m w wide budget (asked .whole) r column product
+  here = now .by (asked .prime) (asked .whole) (asked .held)
+
+  pub turn-asked : 0 < m → TurnAsked p reciprocal m w wide budget r column next product spare indices heights
+  turn-asked columns = record { ready = asked .ready; prime = asked .prime; columns = columns; rooms = rooms; whole = asked .whole; held = here }
+
+  pub staging-on : {budget′ : ℕ} {r′ column′ next′ product′ spare′ indices′ heights′ : List ℕ} → Turned p m w wide budget budget′ r column product r′ column′ product′
+      → length r′ ≡ length r → length column′ ≡ length column → length next′ ≡ length next → length product′ ≡ length product
+      → length spare′ ≡ length spare → length indices′ ≡ length indices → length heights′ ≡ length heights
+      → Staging p reciprocal n w wide r₀ column₀ next₀ product₀ spare₀ indices₀ heights₀ r′ column′ next′ product′ spare′ indices′ heights′ (m - 1) budget′
+  staging-on turned a b c d e f g = record {
+    asked = asked;
+    reached = omega (arith, now .reached);
+    by = λ P whole h. turned .by P whole (now .by P whole h);
+    r-same = a ∙ now .r-same;
+    column-same = b ∙ now .column-same;
+    next-same = c ∙ now .next-same;
+    product-same = d ∙ now .product-same;
+    spare-same = e ∙ now .spare-same;
+    index-same = f ∙ now .index-same;
+    degree-same = g ∙ now .degree-same;
+  }
+
+  -- no column is left beside the parted one
+  module _ (none : m ≡ 0) where
+    at-last : (P : Prime p) (whole : ℕ → Zp p) → FrontHeld p P m w wide budget whole r column product → FrontHeld p P 0 w wide budget whole r column product
+    at-last P whole = subst (λ (x : ℕ). FrontHeld p P x w wide budget whole r column product) none
+
+    pub cell-fits : wide ≤ length column
+    cell-fits = omega (arith, rooms .column-room, one-line (suc m) wide (omega arith))
+
+    pub end-asked : MultiplyAsked p reciprocal product (take wide column) spare
+    end-asked = last-asked (asked .prime) (rooms .room .places) cell-fits (at-last _ _ here) (asked .ready) (rooms .room .places-most) (rooms .room .cell-room)
+
+    pub ran : {product′ : List ℕ} → product′ ≡ signedProduct p false product (take wide column) → length product′ ≡ length product
+        → Ran p n w wide r₀ column₀ product₀ product′
+    ran made same = record { by = λ P whole h. last-held P (rooms .room .places) cell-fits (at-last P whole (now .by P whole h)) end-asked made same }

@@ -1,0 +1,4 @@
+pub mod Reducing
+pub mod Turning
+pub mod Fronts
+pub mod Beginning

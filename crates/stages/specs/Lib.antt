@@ -1,0 +1,4 @@
+pub mod Columns
+pub mod Stage
+pub mod Run
+pub mod Lay
