@@ -1,36 +1,29 @@
 /* The proved reduction and Popov form beside plain C of the same method, in one run.
  *
- * matrix time     prints microseconds per call and the ratio (below 1: the proved one is faster)
+ * matrix figures  prints a line of figures for each input and service: see HEAD
+ * matrix cells KIND P N D  prints the coefficients of an input, for other programs to time
  * matrix compare  only compares result, U, V and the counts of steps; prints 'N passed, M failed'
  */
+#include "moorbesen.h"
 #include "plain.h"
 
 #include <stdbool.h>
 #include <stdio.h>
+#include <stdlib.h>
 #include <string.h>
 #include <time.h>
 
-/* crates/moorbesen: a slice is a pointer and then a length */
-struct reply {
-    size_t number, place, rank;
-    uint64_t count;
-    size_t rows;
-};
-struct reply moorbesen_reduce(uint32_t p, size_t n, size_t m, size_t d, const uint16_t *a, size_t a_len, uint16_t *r, size_t r_len,
-                              uint16_t *u, size_t u_len, uint16_t *v, size_t v_len);
-struct popov_reply {
-    size_t number, place, rank;
-    uint64_t first, second;
-};
-struct popov_reply moorbesen_popov(uint32_t p, size_t n, size_t m, size_t d, const uint16_t *a, size_t a_len, uint16_t *r, size_t r_len,
-                                   uint16_t *u, size_t u_len, uint16_t *v, size_t v_len);
-
 enum { MOST = 8, WIDTH = 64, PLACES = MOST * MOST * WIDTH };
-static const uint32_t moduli[] = {65521, 929};
-static const unsigned sizes[] = {2, 4, 8};
-static const unsigned degrees[] = {15, 63};
 enum kind { RANDOM, COLUMN, HALF_RANK, TRIANGULAR, KINDS };
-static const char *const names[] = {"random", "column", "half rank", "triangular"};
+static const char *const names[KINDS] = {"random", "column", "half rank", "triangular"};
+
+/* The inputs of the table, of every kind, and those that show the growth, which are random: with n at the greatest
+ * degree, and with the degree at the greatest n. */
+enum { MODULI = 2, SIZES = 3, DEGREES = 2, GROWING = 6 };
+static const uint32_t moduli[MODULI] = {65521, 929};
+static const unsigned sizes[SIZES] = {2, 4, 8};
+static const unsigned degrees[DEGREES] = {15, 63};
+static const unsigned growing[GROWING] = {1, 3, 7, 15, 31, 63};
 
 /* A shape, the same number of rows and columns, and the input. */
 struct input {
@@ -134,7 +127,7 @@ static size_t places(const struct input *in)
 static void proved_reduction(const struct input *in, struct output *out)
 {
     const size_t n = in->n, w = places(in);
-    struct reply reply = moorbesen_reduce(in->p, n, n, in->d, in->a, w, out->r, w, out->u, n * w, out->v, w);
+    struct moorbesen_reply reply = moorbesen_reduce(in->p, n, n, in->d, in->a, w, out->r, w, out->u, n * w, out->v, w);
     out->done = reply.number == 0;
     out->counts = (struct counts){reply.count, 0};
 }
@@ -148,7 +141,7 @@ static void plain_reduction(const struct input *in, struct output *out)
 static void proved_popov_form(const struct input *in, struct output *out)
 {
     const size_t n = in->n, w = places(in);
-    struct popov_reply reply = moorbesen_popov(in->p, n, n, in->d, in->a, w, out->r, w, out->u, n * w, out->v, w);
+    struct moorbesen_popov_reply reply = moorbesen_popov(in->p, n, n, in->d, in->a, w, out->r, w, out->u, n * w, out->v, w);
     out->done = reply.number == 0;
     out->counts = (struct counts){reply.first, reply.second};
 }
@@ -203,9 +196,9 @@ static double timed(program *program, struct output *out, const struct input *in
     return now() - start;
 }
 
-/* Prints the times of a service and returns its ratio. The best of several rounds counts, since other work on the
- * machine only ever adds time; the programs take turns, so that a slow spell meets both. */
-static double measure(const struct service *service, const struct input *in)
+/* Prints microseconds per call of the proved function and of plain C. The best of several rounds counts, since other
+ * work on the machine only ever adds time; the programs take turns, so that a slow spell meets both. */
+static void print_times(const struct service *service, const struct input *in)
 {
     enum { ROUNDS = 15 };
     const double least = 5000; /* microseconds of a round */
@@ -219,63 +212,80 @@ static double measure(const struct service *service, const struct input *in)
             double each = timed(service->programs[i], &outputs[i], in, calls[i]) / calls[i];
             best[i] = each < best[i] ? each : best[i];
         }
-    printf("  %10.2f %9.2f %6.2f", best[PROVED], best[PLAIN], best[PROVED] / best[PLAIN]);
+    printf("%.3f,%.3f\n", best[PROVED], best[PLAIN]);
     fflush(stdout);
-    return best[PROVED] / best[PLAIN];
 }
 
-/* Whether the services are to be timed, and what was found. */
+#define HEAD "series,service,input,p,n,d,first,second,proved,C\n"
+
+/* Whether figures are to be printed, and how many comparisons agreed and how many did not. */
 struct results {
-    bool show;
+    bool figures;
     int passed, failed;
-    double sum[SERVICES], worst[SERVICES];
 };
 
-/* One input: a line of the table. The last service is the one that makes steps of both kinds. */
-static void row(struct results *results, const struct input *in)
+/* All services for one input, of the table or of a series that shows the growth. */
+static void input(struct results *results, const char *series, enum kind kind, uint32_t p, unsigned n, unsigned d)
 {
-    if (results->show)
-        printf("%-10s %5u %u %2u", names[in->kind], in->p, in->n, in->d);
+    static struct input in;
+    in.kind = kind;
+    in.p = p;
+    in.n = n;
+    in.d = d;
+    fill(&in);
     for (int i = 0; i < SERVICES; i++) {
-        if (same(&services[i], in)) {
-            results->passed++;
-        } else {
-            results->failed++;
-            printf(" %s of %s p=%u n=%u d=%u: results differ\n", services[i].name, names[in->kind], in->p, in->n, in->d);
-        }
-        if (results->show) {
-            double ratio = measure(&services[i], in);
-            results->sum[i] += ratio;
-            results->worst[i] = ratio > results->worst[i] ? ratio : results->worst[i];
+        const bool agrees = same(&services[i], &in);
+        agrees ? results->passed++ : results->failed++;
+        if (!agrees)
+            fprintf(stderr, "%s of %s p=%u n=%u d=%u: results differ\n", services[i].name, names[kind], p, n, d);
+        if (results->figures) {
+            const struct counts counts = outputs[PLAIN].counts;
+            printf("%s,%s,%s,%u,%u,%u,%llu,%llu,", series, services[i].name, names[kind], p, n, d,
+                   (unsigned long long)counts.first, (unsigned long long)counts.second);
+            print_times(&services[i], &in);
         }
     }
-    const struct counts counts = outputs[PLAIN].counts;
-    if (results->show)
-        printf("  %5llu %2llu\n", (unsigned long long)counts.first, (unsigned long long)counts.second);
+}
+
+static void all_inputs(struct results *results)
+{
+    for (int kind = 0; kind < KINDS; kind++)
+        for (int i = 0; i < MODULI; i++)
+            for (int j = 0; j < SIZES; j++)
+                for (int k = 0; k < DEGREES; k++)
+                    input(results, "table", kind, moduli[i], sizes[j], degrees[k]);
+    for (unsigned n = 1; n <= MOST; n++)
+        input(results, "n", RANDOM, moduli[0], n, WIDTH - 1);
+    for (int k = 0; k < GROWING; k++)
+        input(results, "d", RANDOM, moduli[0], MOST, growing[k]);
+}
+
+/* The coefficients of an input, in their places. */
+static int cells(char **arguments)
+{
+    static struct input in;
+    while (in.kind < KINDS && strcmp(names[in.kind], arguments[0]) != 0)
+        in.kind++;
+    in.p = (uint32_t)strtoul(arguments[1], NULL, 10);
+    in.n = (unsigned)strtoul(arguments[2], NULL, 10);
+    in.d = (unsigned)strtoul(arguments[3], NULL, 10);
+    if (in.kind == KINDS || in.p < 2 || in.n > MOST || in.d >= WIDTH)
+        return 1;
+    fill(&in);
+    for (size_t i = 0; i < places(&in); i++)
+        printf("%u ", in.a[i]);
+    return 0;
 }
 
 int main(int argc, char **argv)
 {
-    static struct input in;
-    struct results results = {.show = argc > 1 && strcmp(argv[1], "time") == 0};
-    int inputs = 0;
-    if (results.show)
-        printf("                         reduction, microseconds      Popov form, microseconds     steps\n"
-               "input          p n  d      proved         C  ratio      proved         C  ratio    of 2 kinds\n");
-    for (in.kind = 0; in.kind < KINDS; in.kind++)
-        for (size_t i = 0; i < sizeof moduli / sizeof *moduli; i++)
-            for (size_t j = 0; j < sizeof sizes / sizeof *sizes; j++)
-                for (size_t k = 0; k < sizeof degrees / sizeof *degrees; k++) {
-                    in.p = moduli[i];
-                    in.n = sizes[j];
-                    in.d = degrees[k];
-                    fill(&in);
-                    row(&results, &in);
-                    inputs++;
-                }
-    for (int i = 0; results.show && i < SERVICES; i++)
-        printf("%s: mean ratio %.2f, worst %.2f\n", services[i].name, results.sum[i] / inputs, results.worst[i]);
-    if (!results.show)
+    if (argc == 6 && strcmp(argv[1], "cells") == 0)
+        return cells(argv + 2);
+    struct results results = {.figures = argc == 2 && strcmp(argv[1], "figures") == 0};
+    if (results.figures)
+        printf(HEAD);
+    all_inputs(&results);
+    if (!results.figures)
         printf("%d passed, %d failed\n", results.passed, results.failed);
     return results.failed != 0;
 }

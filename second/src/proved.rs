@@ -1,5 +1,5 @@
-//! The comparison with the proved program, through its C functions. All that
-//! concerns these functions stands in this file; it is compiled only with the
+//! The comparison with the proved program, through its bindings for Rust. All
+//! that concerns the bindings stands in this file; it is compiled only with the
 //! feature `proved`.
 
 use crate::check::{self, Faults};
@@ -8,71 +8,7 @@ use crate::popov;
 use crate::reduce;
 use crate::refuse::{self, Call, Service};
 use crate::sample::{self, Sample};
-
-/// The answer of the reduction and of the single step. In `rows`, bit i-1 is
-/// set for row number i of the row list.
-#[repr(C)]
-struct Reply {
-    number: usize,
-    place: usize,
-    rank: usize,
-    count: u64,
-    rows: usize,
-}
-
-/// The answer of the Popov form, with its counts of the first and of the second
-/// kind.
-#[repr(C)]
-struct PopovReply {
-    number: usize,
-    place: usize,
-    rank: usize,
-    first: u64,
-    second: u64,
-}
-
-extern "C" {
-    fn moorbesen_reduce(
-        p: u32,
-        n: usize,
-        m: usize,
-        d: usize,
-        a: *const u16,
-        a_len: usize,
-        r: *mut u16,
-        r_len: usize,
-        u: *mut u16,
-        u_len: usize,
-        v: *mut u16,
-        v_len: usize,
-    ) -> Reply;
-
-    fn moorbesen_step(
-        p: u32,
-        n: usize,
-        m: usize,
-        d: usize,
-        a: *const u16,
-        a_len: usize,
-        r: *mut u16,
-        r_len: usize,
-    ) -> Reply;
-
-    fn moorbesen_popov(
-        p: u32,
-        n: usize,
-        m: usize,
-        d: usize,
-        a: *const u16,
-        a_len: usize,
-        r: *mut u16,
-        r_len: usize,
-        u: *mut u16,
-        u_len: usize,
-        v: *mut u16,
-        v_len: usize,
-    ) -> PopovReply;
-}
+use moorbesen::Refusal;
 
 /// An answer by its numbers, for all services; what a service does not answer
 /// is 0.
@@ -86,40 +22,26 @@ struct Said {
     rows: usize,
 }
 
-impl From<Reply> for Said {
-    fn from(reply: Reply) -> Said {
-        Said {
-            number: reply.number,
-            place: reply.place,
-            rank: reply.rank,
-            first_count: reply.count,
-            rows: reply.rows,
+/// What is said by the answer of a service, whose numbers are told by `done`.
+fn said<T>(answer: Result<T, Refusal>, done: impl Fn(T) -> Said) -> Said {
+    answer.map_or_else(
+        |Refusal { number, place }| Said {
+            number,
+            place,
             ..Said::default()
-        }
-    }
-}
-
-impl From<PopovReply> for Said {
-    fn from(reply: PopovReply) -> Said {
-        Said {
-            number: reply.number,
-            place: reply.place,
-            rank: reply.rank,
-            first_count: reply.first,
-            second_count: reply.second,
-            ..Said::default()
-        }
-    }
+        },
+        done,
+    )
 }
 
 /// The answer of a call that is done, and what the buffers after the input hold
 /// then.
 type Done = (Said, Vec<Vec<u16>>);
 
-/// The C function of a service, and what this program knows of that service.
+/// The proved function of a service, and what this program knows of that service.
 struct Function {
     service: Service,
-    /// Calls the C function with the input and the buffers after it.
+    /// Calls the proved function with the input and the buffers after it.
     call: fn(&Call, &[u16], &mut [Buffer]) -> Said,
     /// For p, d and a matrix that are not refused.
     done: fn(u64, usize, &Matrix) -> Done,
@@ -130,19 +52,19 @@ struct Function {
 const FUNCTIONS: [Function; 3] = [
     Function {
         service: Service::Reduction,
-        call: |call, input, buffers| call_for_three(moorbesen_reduce, call, input, buffers),
+        call: call_reduce,
         done: reduction,
         further: reduction_multiplied_out,
     },
     Function {
         service: Service::SingleStep,
-        call: |call, input, buffers| call_for_one(moorbesen_step, call, input, buffers),
+        call: call_step,
         done: single_step,
         further: later_steps_agree,
     },
     Function {
         service: Service::PopovForm,
-        call: |call, input, buffers| call_for_three(moorbesen_popov, call, input, buffers),
+        call: call_popov,
         done: popov_form,
         further: |numbered| popov_form_multiplied_out(numbered) & pair_agrees(numbered),
     },
@@ -150,56 +72,52 @@ const FUNCTIONS: [Function; 3] = [
 
 fn function(service: Service) -> &'static Function {
     let found = FUNCTIONS.iter().find(|f| f.service == service);
-    found.expect("no C function for this service")
+    found.expect("no proved function for this service")
 }
 
-/// A C function with the buffers result, U and V after the input.
-fn call_for_three<R: Into<Said>>(
-    function: unsafe extern "C" fn(
-        u32,
-        usize,
-        usize,
-        usize,
-        *const u16,
-        usize,
-        *mut u16,
-        usize,
-        *mut u16,
-        usize,
-        *mut u16,
-        usize,
-    ) -> R,
-    call: &Call,
-    input: &[u16],
-    buffers: &mut [Buffer],
-) -> Said {
-    let (n, m, d) = (call.n as usize, call.m as usize, call.d as usize);
-    let (a, a_len) = (input.as_ptr(), input.len());
-    let [(r, r_len), (u, u_len), (v, v_len)] = [0, 1, 2].map(|i| buffers[i].lent());
-    // Every pointer is good for its length, and the buffers are apart.
-    unsafe { function(call.p, n, m, d, a, a_len, r, r_len, u, u_len, v, v_len) }.into()
+/// The numbers n, m and d of a call.
+fn shape(call: &Call) -> (usize, usize, usize) {
+    (call.n as usize, call.m as usize, call.d as usize)
 }
 
-/// A C function with the result alone after the input.
-fn call_for_one<R: Into<Said>>(
-    function: unsafe extern "C" fn(
-        u32,
-        usize,
-        usize,
-        usize,
-        *const u16,
-        usize,
-        *mut u16,
-        usize,
-    ) -> R,
-    call: &Call,
-    input: &[u16],
-    buffers: &mut [Buffer],
-) -> Said {
-    let (n, m, d) = (call.n as usize, call.m as usize, call.d as usize);
-    let (r, r_len) = buffers[0].lent();
-    // As above.
-    unsafe { function(call.p, n, m, d, input.as_ptr(), input.len(), r, r_len) }.into()
+fn call_reduce(call: &Call, input: &[u16], buffers: &mut [Buffer]) -> Said {
+    let (n, m, d) = shape(call);
+    let [r, u, v] = lent(buffers);
+    let answer = moorbesen::reduce(call.p, n, m, d, input, r, u, v);
+    said(answer, |done| Said {
+        rank: done.rank,
+        first_count: done.count,
+        rows: done.rows,
+        ..Said::default()
+    })
+}
+
+fn call_step(call: &Call, input: &[u16], buffers: &mut [Buffer]) -> Said {
+    let (n, m, d) = shape(call);
+    let [r] = lent(buffers);
+    let answer = moorbesen::step(call.p, n, m, d, input, r);
+    said(answer, |first_count| Said {
+        first_count,
+        ..Said::default()
+    })
+}
+
+fn call_popov(call: &Call, input: &[u16], buffers: &mut [Buffer]) -> Said {
+    let (n, m, d) = shape(call);
+    let [r, u, v] = lent(buffers);
+    let answer = moorbesen::popov(call.p, n, m, d, input, r, u, v);
+    said(answer, |done| Said {
+        rank: done.rank,
+        first_count: done.first,
+        second_count: done.second,
+        ..Said::default()
+    })
+}
+
+/// The contents of the buffers, lent to a call that takes so many.
+fn lent<const MANY: usize>(buffers: &mut [Buffer]) -> [&mut [u16]; MANY] {
+    let contents: Vec<&mut [u16]> = buffers.iter_mut().map(Buffer::content_mut).collect();
+    contents.try_into().expect("a buffer too few or too many")
 }
 
 fn reduction(p: u64, d: usize, a: &Matrix) -> Done {
@@ -271,11 +189,9 @@ impl Buffer {
         &self.places[GUARD..self.places.len() - GUARD]
     }
 
-    /// The content as C functions take it: pointer and length.
-    fn lent(&mut self) -> (*mut u16, usize) {
+    fn content_mut(&mut self) -> &mut [u16] {
         let end = self.places.len() - GUARD;
-        let content = &mut self.places[GUARD..end];
-        (content.as_mut_ptr(), content.len())
+        &mut self.places[GUARD..end]
     }
 
     /// The first place where it differs from what it should hold.

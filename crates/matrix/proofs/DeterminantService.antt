@@ -7,11 +7,9 @@ use native.Mathlib.Nat as N
 use native.Mathlib.Omega.{arith}
 use lib.ListN.{length, getD}
 use Rattle.algebra.specs.Prime.{Prime}
-use Rattle.algebra.specs.Residue.{Zp}
 use Rattle.algebra.proofs.PrimeField.{zp-field}
 use Rattle.algebra.proofs.Series.{series}
 use Rattle.determinant.specs.Determinant.{det}
-use Rattle.lattice.specs.Row.{Row}
 use Rattle.lists.proofs.Grid.{one-line}
 use Rattle.residues.specs.Modulus.{Ready}
 use Rattle.buffers.specs.Held.{matrixOf}
@@ -28,7 +26,7 @@ use Rattle.matrix.specs.declared.determining.DeterminantAnswer.the-varia
 
 module _ {p reciprocal n d : ℕ} {a r : List ℕ} (asked : WorkAsked p reciprocal n d a r) where
   -- the room that the stages take, at most
-  pub wide-most : n * d + 1 ≤ 505
+  wide-most : n * d + 1 ≤ 505
   wide-most = omega (arith, N.mul-le-mul (asked .rows-most) (asked .degree-most))
 
   line-most : (n - 1) * (d + 1) ≤ 448
@@ -60,10 +58,12 @@ module _ {p reciprocal n d : ℕ} {a r : List ℕ} (asked : WorkAsked p reciproc
   -- the first stage is that of the matrix in a
   module _ {columns column r′ : List ℕ} (laid : Laid n (d + 1) (n * d + 1) a columns column r′) where
     begins : (P : Prime p) (some : 0 < p)
-        → FrontHeld p P (n - 1) (d + 1) (n * d + 1) (n * (d + 1 - 1)) (det (series (zp-field p P .ring)) n (matrixOf (by-rows n n (d + 1)) p some a)) columns column r′
+        → FrontHeld p P (n - 1) (d + 1) (n * d + 1) (n * (d + 1 - 1))
+        (det (series (zp-field p P .ring)) n (matrixOf (by-rows n n (d + 1)) p some a)) columns column r′
     begins P some =
         let same : d + 1 - 1 ≡ d = omega arith in
-        first-stage P (asked .rows) (omega arith) widened (rw same (omega arith)) (held-matrixOf (by-rows n n (d + 1)) p some a (asked .size) (asked .residues)) laid
+        first-stage P (asked .rows) (omega arith) widened (rw same (omega arith))
+        (held-matrixOf (by-rows n n (d + 1)) p some a (asked .size) (asked .residues)) laid
 
     pub stages-asked : {next spare indices degrees : List ℕ} → length columns ≡ 3584 → length column ≡ 4040 → length next ≡ 3584 → length spare ≡ 512
         → length indices ≡ 8 → length degrees ≡ 8 → RunAsked p reciprocal n (d + 1) (n * d + 1) columns column next r′ spare indices degrees

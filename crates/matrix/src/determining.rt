@@ -40,7 +40,7 @@ fn work(a: &[u16], r: &mut [u16], n: usize, d: usize, md: Modulus)
     );
 }
 
-// "The result is a polynomial of n·d+1 places", or a refusal that leaves it as it was.
+// The determinant in the n·d + 1 places of r, or a refusal that leaves them as they were.
 pub fn determinant(
     p: u32,
     n: usize,

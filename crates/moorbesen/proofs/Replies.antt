@@ -13,9 +13,13 @@ use Rattle.matrix.specs.Single.{StepAnswered}
 use Rattle.matrix.specs.declared.popov_form.PopovAnswer.{PopovAnswer}
 use Rattle.matrix.specs.declared.popov_form.PopovAnswer.the-variants as Popov
 use Rattle.matrix.specs.Popov.{PopovAnswered}
+use Rattle.matrix.specs.declared.determining.DeterminantAnswer.{DeterminantAnswer}
+use Rattle.matrix.specs.declared.determining.DeterminantAnswer.the-variants as Determinant
+use Rattle.matrix.specs.Determinant.{DeterminantAnswered}
 use Rattle.moorbesen.specs.declared.Reply.{Reply}
 use Rattle.moorbesen.specs.declared.PopovReply.{PopovReply}
-use Rattle.moorbesen.specs.Reply.{Refusing, Replied, StepReplied, PopovTells, PopovReplied}
+use Rattle.moorbesen.specs.declared.DeterminantReply.{DeterminantReply}
+use Rattle.moorbesen.specs.Reply.{Refusing, Replied, StepReplied, PopovTells, PopovReplied, DeterminantRefusing, DeterminantReplied}
 
 -- the reply to a refused call
 abbrev refusal : (number place : ℕ) → Reply
@@ -59,3 +63,18 @@ module _ {p n m d : ℕ} {a r u v r′ u′ v′ : List ℕ} (x : PopovAnswer) (
   pub popov-replied-done : {rank first second : ℕ} (z : PopovReply) → x ≡ Popov.Done rank first second → PopovTells 0 0 rank first second z
       → PopovReplied p n m d a r u v r′ u′ v′ z
   popov-replied-done z x-is tells = rw (popov-tells tells) (subst (PopovAnswered p n m d a r u v r′ u′ v′) x-is h)
+
+-- of the determinant
+determinant-refused-is : {number place : ℕ} {x : DeterminantReply} → DeterminantRefusing number place x
+    → x ≡ record { number = number; place = place }
+determinant-refused-is h = λ i. record { number = h .number-is i; place = h .place-is i }
+
+module _ {p n m d : ℕ} {a r r′ : List ℕ} where
+  pub determinant-replied-refused : (x : DeterminantAnswer) (y : Refusal) (z : DeterminantReply) → x ≡ Determinant.NotDone y
+      → DeterminantRefusing (numberOf y) (placeOf y) z → DeterminantAnswered p n m d a r r′ x → DeterminantReplied p n m d a r r′ z
+  determinant-replied-refused x y z x-is refusing h =
+      subst⁻¹ (DeterminantReplied p n m d a r r′) (determinant-refused-is refusing) (subst (DeterminantAnswered p n m d a r r′) x-is h)
+
+  pub determinant-replied-done : (x : DeterminantAnswer) → x ≡ Determinant.Done → DeterminantAnswered p n m d a r r′ x
+      → DeterminantReplied p n m d a r r′ (record { number = 0; place = 0 })
+  determinant-replied-done x x-is h = subst (DeterminantAnswered p n m d a r r′) x-is h

@@ -5,8 +5,10 @@ use Prim.Native.Nat.{ℕ}
 use Rattle.matrix.specs.Answer.{Promised}
 use Rattle.matrix.specs.Single.{StepPromised}
 use Rattle.matrix.specs.Popov.{PopovPromised}
+use Rattle.matrix.specs.Determinant.{DeterminantPromised}
 use Rattle.moorbesen.specs.declared.Reply.{Reply}
 use Rattle.moorbesen.specs.declared.PopovReply.{PopovReply}
+use Rattle.moorbesen.specs.declared.DeterminantReply.{DeterminantReply}
 
 -- "Rank and counts in a refusal are 0, the row list is empty"
 pub record Refusing (number place : ℕ) (x : Reply) : Type 0 where
@@ -35,3 +37,12 @@ pub record PopovTells (number place rank first second : ℕ) (x : PopovReply) : 
 -- and the promise of the Popov form
 abbrev pub PopovReplied : (p n m d : ℕ) (a r u v r′ u′ v′ : List ℕ) → PopovReply → Type 0
 PopovReplied p n m d a r u v r′ u′ v′ x = PopovPromised p n m d a r u v r′ u′ v′ (x .number) (x .place) (x .rank) (x .first) (x .second)
+
+-- a refusal of the determinant
+pub record DeterminantRefusing (number place : ℕ) (x : DeterminantReply) : Type 0 where
+  pub number-is : x .number ≡ number
+  pub place-is : x .place ≡ place
+
+-- and the promise of the determinant
+abbrev pub DeterminantReplied : (p n m d : ℕ) (a r r′ : List ℕ) → DeterminantReply → Type 0
+DeterminantReplied p n m d a r r′ x = DeterminantPromised p n m d a r r′ (x .number) (x .place)

@@ -1,6 +1,8 @@
 // The services for programs in C: each forwards to the matrix crate and tells the answer by its numbers.
 ghost use Rattle.refusals.specs.Number.{numberOf, placeOf};
-ghost use Rattle.moorbesen.specs.Reply.{Refusing, Replied, StepReplied, PopovTells, PopovReplied};
+ghost use Rattle.moorbesen.specs.Reply.{Refusing, Replied, StepReplied, PopovTells, PopovReplied, DeterminantRefusing, DeterminantReplied};
+use matrix::determining;
+use matrix::determining::DeterminantAnswer;
 use matrix::popov_form;
 use matrix::popov_form::PopovAnswer;
 use matrix::reducing;
@@ -138,5 +140,41 @@ pub extern "C" fn moorbesen_popov(
             first,
             second,
         } => popov_reply(0, 0, rank, first, second),
+    }
+}
+
+#[repr(C)]
+pub struct DeterminantReply {
+    pub number: usize,
+    pub place: usize,
+}
+
+fn determinant_refused(x: Refusal) -> DeterminantReply
+    ensures { λ y. ⌜ DeterminantRefusing (numberOf x) (placeOf x) y ⌝ }
+{
+    let y = refused(x);
+    DeterminantReply {
+        number: y.number,
+        place: y.place,
+    }
+}
+
+#[no_mangle]
+pub extern "C" fn moorbesen_determinant(
+    p: u32,
+    n: usize,
+    m: usize,
+    d: usize,
+    a: &[u16],
+    r: &mut [u16],
+) -> DeterminantReply
+    ensures { λ x. ⌜ DeterminantReplied p n m d (now (a .entry)) (now (r .entry)) (now (r .exit)) x ⌝ }
+{
+    match determining::determinant(p, n, m, d, a, r) {
+        DeterminantAnswer::NotDone(x) => determinant_refused(x),
+        DeterminantAnswer::Done => DeterminantReply {
+            number: 0,
+            place: 0,
+        },
     }
 }

@@ -81,9 +81,11 @@ module _ {p : ℕ} (P : Prime p) {n w wide : ℕ} (rows : 0 < n) (places : 0 < w
         matrix = subst (λ (x : ℕ). Held (by-rows x (n - 1) w) p (take (x * ((n - 1) * w)) r) A) one-less
             (held-matrix-same (by-rows n (n - 1) w) p (as-it-is (n - 1)) (held-next input all (laid-out .parted)));
         parted = subst (λ (x : ℕ). Held (by-rows x 1 wide) p (take (x * wide) column) (λ s _. A s (n - 1))) one-less
-            (held-matrix-same (by-rows n 1 wide) p (λ s j ls lj. as-it-is n s (n - 1) ls (omega arith)) (held-column input all (laid-out .parted) rows widened));
+            (held-matrix-same (by-rows n 1 wide) p (λ s j ls lj. as-it-is n s (n - 1) ls (omega arith))
+            (held-column input all (laid-out .parted) rows widened));
         stage = stage-start K w (wide - 1) n (n - 1) (w - 1) (sym one-less) A
-            (λ s ls c lc. below-more (K .ring) (A s c) _ _ (omega arith) (held-bounded (by-rows n n w) p P input s ls c lc)) (omega arith) (omega arith);
+            (λ s ls c lc. below-more (K .ring) (A s c) _ _ (omega arith) (held-bounded (by-rows n n w) p P input s ls c lc))
+            (omega arith) (omega arith);
       };
       size = omega (arith, laid-out .one .size);
       so-far = holds-one;

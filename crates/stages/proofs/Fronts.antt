@@ -38,7 +38,8 @@ fewer m wide = N.mul-le-mul-right wide (N.le-suc m)
 -- the buffers keep their lengths, and a later stage has room where an earlier one had
 rooms-on : {m m′ w wide : ℕ} {r column next spare indices heights r′ column′ next′ spare′ indices′ heights′ : List ℕ} → m′ ≤ m
     → Rooms m w wide r column next spare indices heights → length r′ ≡ length r → length column′ ≡ length column → length next′ ≡ length next
-    → length spare′ ≡ length spare → length indices′ ≡ length indices → length heights′ ≡ length heights → Rooms m′ w wide r′ column′ next′ spare′ indices′ heights′
+    → length spare′ ≡ length spare → length indices′ ≡ length indices → length heights′ ≡ length heights
+    → Rooms m′ w wide r′ column′ next′ spare′ indices′ heights′
 rooms-on {m} {m′} {w} {wide} le rooms r-same column-same next-same spare-same index-same degree-same =
     let more : suc m′ ≤ suc m = omega arith in
     let lines : suc m′ * (m′ * w) ≤ suc m * (m * w) = N.mul-le-mul more (N.mul-le-mul-right w le) in
@@ -75,10 +76,12 @@ module _ {p reciprocal m w wide budget : ℕ} {r column next product spare indic
   pub r-still : (r′ : List ℕ) → length r′ ≡ length (take (suc m * (m * w)) r) → m * ((m - 1) * w) ≤ length (r′ ++ drop (suc m * (m * w)) r)
   r-still r′ same = omega (arith, less-fits .0, length-front r r′ (suc m * (m * w)) same)
 
-  pub next-still : (next′ : List ℕ) → length next′ ≡ length (take (m * ((m - 1) * w)) next) → m * ((m - 1) * w) ≤ length (next′ ++ drop (m * ((m - 1) * w)) next)
+  pub next-still : (next′ : List ℕ) → length next′ ≡ length (take (m * ((m - 1) * w)) next)
+      → m * ((m - 1) * w) ≤ length (next′ ++ drop (m * ((m - 1) * w)) next)
   next-still next′ same = omega (arith, less-fits .1, length-front next next′ (m * ((m - 1) * w)) same)
 
-  pub stage-asked : StageAsked p reciprocal m w wide budget (take (suc m * (m * w)) r) (take (suc m * wide) column) (take (m * ((m - 1) * w)) next) product spare indices heights
+  pub stage-asked : StageAsked p reciprocal m w wide budget (take (suc m * (m * w)) r) (take (suc m * wide) column) (take (m * ((m - 1) * w)) next)
+      product spare indices heights
   stage-asked = record {
     ready = asked .ready;
     prime = asked .prime;
@@ -109,7 +112,8 @@ module _ {p reciprocal m w wide budget : ℕ} {r column next product spare indic
     turned {r′} is rest under = record {
       by = λ P whole h.
           let one-less : suc (m - 1) ≡ m = omega (arith, asked .columns) in
-          let rows : take (suc (m - 1) * ((m - 1) * w)) (r′ ++ rest) ≡ next′ = rw one-less (take-at r′ rest _ (ap length (is ∙ taken) ∙ next-size) ∙ is ∙ taken) in
+          let rows : take (suc (m - 1) * ((m - 1) * w)) (r′ ++ rest) ≡ next′ = rw one-less
+          (take-at r′ rest _ (ap length (is ∙ taken) ∙ next-size) ∙ is ∙ taken) in
           let cells : take (suc (m - 1) * wide) (column′ ++ under) ≡ take (m * wide) column′ = rw one-less (take-append-le (m * wide) column′ under
           (omega (arith, column-kept, length-take-le (suc m * wide) column (rooms .column-room), fewer m wide))) in
           record { front = rw (rows, cells) (staged .by P whole (h .front)) };
@@ -119,7 +123,8 @@ module _ {p reciprocal m w wide budget : ℕ} {r column next product spare indic
 held-single : {p w : ℕ} {l : List ℕ} {f : ℕ → Zp p} → length l ≡ w → Holds p l f → Held (by-rows 1 1 w) p l (λ _ _. f)
 held-single {w = w} {l = l} size h = record {
   size = omega (arith, size);
-  at = λ i j t li lj lt. let i-is : i ≡ 0 = omega arith in let j-is : j ≡ 0 = omega arith in rw (i-is, j-is) (ap (λ (x : ℕ). getD l x 0) (omega arith) ∙ h .at t);
+  at = λ i j t li lj lt. let first : i ≡ 0 = omega arith in let only : j ≡ 0 = omega arith in
+      rw (first, only) (ap (λ (x : ℕ). getD l x 0) (omega arith) ∙ h .at t);
   beyond = λ i j t li lj past. sym (h .at t) ∙ getD-past l t (omega (arith, size));
 }
 
@@ -137,27 +142,30 @@ module _ {p : ℕ} (P : Prime p) {w wide budget : ℕ} (places : 0 < wide) {whol
   entry : Holds p (take wide column) (T 0 0)
   entry =
       let one : suc 0 * wide ≡ wide = omega arith in
-      rw (N.zero-mul, one, take-all wide (take wide column) (omega (arith, length-take-le wide column fits))) at (column-cell (held .rows .parted) 0 (omega arith))
+      rw (N.zero-mul, one, take-all wide (take wide column) (omega (arith, length-take-le wide column fits)))
+      at (column-cell (held .rows .parted) 0 (omega arith))
 
   last : (series (K .ring) .mul (held .f) (T 0 0) ≡ whole) × Below (K .ring) (series (K .ring) .mul (held .f) (T 0 0)) (suc (wide - 1))
   last = stage-last K w (wide - 1) whole (held .rows .stage) refl
 
-  pub last-asked : {reciprocal : ℕ} {spare : List ℕ} → Ready p reciprocal → wide ≤ 512 → wide ≤ length spare → MultiplyAsked p reciprocal product (take wide column) spare
+  last-asked : {reciprocal : ℕ} {spare : List ℕ} → Ready p reciprocal → wide ≤ 512 → wide ≤ length spare
+      → MultiplyAsked p reciprocal product (take wide column) spare
   last-asked ready few room = multiply-asked p P (held .so-far) entry ready (below-more (K .ring) _ _ _ (omega (arith, held .size)) (last .1))
       (omega (arith, held .size)) (omega (arith, held .size))
 
-  pub last-held : {reciprocal : ℕ} {spare product′ : List ℕ} → MultiplyAsked p reciprocal product (take wide column) spare
-      → product′ ≡ signedProduct p false product (take wide column) → length product′ ≡ length product → Held (by-rows 1 1 wide) p product′ (λ _ _. whole)
+  last-held : {reciprocal : ℕ} {spare product′ : List ℕ} → MultiplyAsked p reciprocal product (take wide column) spare
+      → product′ ≡ signedProduct p false product (take wide column) → length product′ ≡ length product
+      → Held (by-rows 1 1 wide) p product′ (λ _ _. whole)
   last-held asked made same = held-single (same ∙ held .size) (rw (made, ← last .0) (holds-signed p P (held .so-far) entry (asked .product) false))
 
 -- the first budget is within a wide cell
-pub budget-fits : {p reciprocal n w wide : ℕ} {r column next product spare indices heights : List ℕ} → RunAsked p reciprocal n w wide r column next product spare indices heights
-    → n * (w - 1) ≤ 512
+pub budget-fits : {p reciprocal n w wide : ℕ} {r column next product spare indices heights : List ℕ}
+    → RunAsked p reciprocal n w wide r column next product spare indices heights → n * (w - 1) ≤ 512
 budget-fits asked = omega (arith, asked .held .front .rows .stage .within, asked .rooms .room .places-most)
 
 -- where the loop over the stages stands
-pub record Staging (p reciprocal n w wide : ℕ) (r₀ column₀ next₀ product₀ spare₀ indices₀ heights₀ r column next product spare indices heights : List ℕ)
-    (m budget : ℕ) : Type 0 where
+pub record Staging (p reciprocal n w wide : ℕ) (r₀ column₀ next₀ product₀ spare₀ indices₀ heights₀ : List ℕ)
+    (r column next product spare indices heights : List ℕ) (m budget : ℕ) : Type 0 where
   pub asked : RunAsked p reciprocal n w wide r₀ column₀ next₀ product₀ spare₀ indices₀ heights₀
   pub reached : m ≤ n - 1
   pub by : (P : Prime p) (whole : ℕ → Zp p) → FrontHeld p P (n - 1) w wide (n * (w - 1)) whole r₀ column₀ product₀
@@ -170,7 +178,8 @@ pub record Staging (p reciprocal n w wide : ℕ) (r₀ column₀ next₀ product
   pub index-same : length indices ≡ length indices₀
   pub degree-same : length heights ≡ length heights₀
 
-pub staging-start : {p reciprocal n w wide : ℕ} {r column next product spare indices heights : List ℕ} → RunAsked p reciprocal n w wide r column next product spare indices heights
+pub staging-start : {p reciprocal n w wide : ℕ} {r column next product spare indices heights : List ℕ}
+    → RunAsked p reciprocal n w wide r column next product spare indices heights
     → Staging p reciprocal n w wide r column next product spare indices heights r column next product spare indices heights (n - 1) (n * (w - 1))
 staging-start asked = record {
   asked = asked;
@@ -185,47 +194,54 @@ staging-start asked = record {
   degree-same = refl;
 }
 
-module _ {p reciprocal n w wide : ℕ} {r₀ column₀ next₀ product₀ spare₀ indices₀ heights₀ r column next product spare indices heights : List ℕ} {m budget : ℕ}
-    (now : Staging p reciprocal n w wide r₀ column₀ next₀ product₀ spare₀ indices₀ heights₀ r column next product spare indices heights m budget) where
-  open Staging now using (asked)
+module _ {p reciprocal n w wide : ℕ} {r₀ column₀ next₀ product₀ spare₀ indices₀ heights₀ r column next product spare indices heights : List ℕ}
+    {m budget : ℕ}
+    (now : Staging p reciprocal n w wide r₀ column₀ next₀ product₀ spare₀ indices₀ heights₀ r column next product spare indices heights m budget)
+  where
+    open Staging now using (asked)
 
-  rooms : Rooms m w wide r column next spare indices heights
-  rooms = rooms-on (now .reached) (asked .rooms) (now .r-same) (now .column-same) (now .next-same) (now .spare-same) (now .index-same) (now .degree-same)
+    rooms : Rooms m w wide r column next spare indices heights
+    rooms = rooms-on (now .reached) (asked .rooms) (now .r-same) (now .column-same) (now .next-same) (now .spare-same) (now .index-same)
+        (now .degree-same)
 
-  here : FrontHeld p (asked .prime) m w wide budget (asked .whole) r column product
-  here = now .by (asked .prime) (asked .whole) (asked .held)
+    here : FrontHeld p (asked .prime) m w wide budget (asked .whole) r column product
+    here = now .by (asked .prime) (asked .whole) (asked .held)
 
-  pub turn-asked : 0 < m → TurnAsked p reciprocal m w wide budget r column next product spare indices heights
-  turn-asked columns = record { ready = asked .ready; prime = asked .prime; columns = columns; rooms = rooms; whole = asked .whole; held = here }
+    pub turn-asked : 0 < m → TurnAsked p reciprocal m w wide budget r column next product spare indices heights
+    turn-asked columns = record { ready = asked .ready; prime = asked .prime; columns = columns; rooms = rooms; whole = asked .whole; held = here }
 
-  pub staging-on : {budget′ : ℕ} {r′ column′ next′ product′ spare′ indices′ heights′ : List ℕ} → Turned p m w wide budget budget′ r column product r′ column′ product′
-      → length r′ ≡ length r → length column′ ≡ length column → length next′ ≡ length next → length product′ ≡ length product
-      → length spare′ ≡ length spare → length indices′ ≡ length indices → length heights′ ≡ length heights
-      → Staging p reciprocal n w wide r₀ column₀ next₀ product₀ spare₀ indices₀ heights₀ r′ column′ next′ product′ spare′ indices′ heights′ (m - 1) budget′
-  staging-on turned a b c d e f g = record {
-    asked = asked;
-    reached = omega (arith, now .reached);
-    by = λ P whole h. turned .by P whole (now .by P whole h);
-    r-same = a ∙ now .r-same;
-    column-same = b ∙ now .column-same;
-    next-same = c ∙ now .next-same;
-    product-same = d ∙ now .product-same;
-    spare-same = e ∙ now .spare-same;
-    index-same = f ∙ now .index-same;
-    degree-same = g ∙ now .degree-same;
-  }
+    pub staging-on : {budget′ : ℕ} {r′ column′ next′ product′ spare′ indices′ heights′ : List ℕ}
+        → Turned p m w wide budget budget′ r column product r′ column′ product′
+        → length r′ ≡ length r → length column′ ≡ length column → length next′ ≡ length next → length product′ ≡ length product
+        → length spare′ ≡ length spare → length indices′ ≡ length indices → length heights′ ≡ length heights
+        → Staging p reciprocal n w wide r₀ column₀ next₀ product₀ spare₀ indices₀ heights₀ r′ column′ next′ product′ spare′ indices′ heights′
+        (m - 1) budget′
+    staging-on turned a b c d e f g = record {
+      asked = asked;
+      reached = omega (arith, now .reached);
+      by = λ P whole h. turned .by P whole (now .by P whole h);
+      r-same = a ∙ now .r-same;
+      column-same = b ∙ now .column-same;
+      next-same = c ∙ now .next-same;
+      product-same = d ∙ now .product-same;
+      spare-same = e ∙ now .spare-same;
+      index-same = f ∙ now .index-same;
+      degree-same = g ∙ now .degree-same;
+    }
 
-  -- no column is left beside the parted one
-  module _ (none : m ≡ 0) where
-    at-last : (P : Prime p) (whole : ℕ → Zp p) → FrontHeld p P m w wide budget whole r column product → FrontHeld p P 0 w wide budget whole r column product
-    at-last P whole = subst (λ (x : ℕ). FrontHeld p P x w wide budget whole r column product) none
+    -- no column is left beside the parted one
+    module _ (none : m ≡ 0) where
+      at-last : (P : Prime p) (whole : ℕ → Zp p) → FrontHeld p P m w wide budget whole r column product
+          → FrontHeld p P 0 w wide budget whole r column product
+      at-last P whole = subst (λ (x : ℕ). FrontHeld p P x w wide budget whole r column product) none
 
-    pub cell-fits : wide ≤ length column
-    cell-fits = omega (arith, rooms .column-room, one-line (suc m) wide (omega arith))
+      pub cell-fits : wide ≤ length column
+      cell-fits = omega (arith, rooms .column-room, one-line (suc m) wide (omega arith))
 
-    pub end-asked : MultiplyAsked p reciprocal product (take wide column) spare
-    end-asked = last-asked (asked .prime) (rooms .room .places) cell-fits (at-last _ _ here) (asked .ready) (rooms .room .places-most) (rooms .room .cell-room)
+      pub end-asked : MultiplyAsked p reciprocal product (take wide column) spare
+      end-asked = last-asked (asked .prime) (rooms .room .places) cell-fits (at-last _ _ here) (asked .ready) (rooms .room .places-most)
+          (rooms .room .cell-room)
 
-    pub ran : {product′ : List ℕ} → product′ ≡ signedProduct p false product (take wide column) → length product′ ≡ length product
-        → Ran p n w wide r₀ column₀ product₀ product′
-    ran made same = record { by = λ P whole h. last-held P (rooms .room .places) cell-fits (at-last P whole (now .by P whole h)) end-asked made same }
+      pub ran : {product′ : List ℕ} → product′ ≡ signedProduct p false product (take wide column) → length product′ ≡ length product
+          → Ran p n w wide r₀ column₀ product₀ product′
+      ran made same = record { by = λ P whole h. last-held P (rooms .room .places) cell-fits (at-last P whole (now .by P whole h)) end-asked made same }

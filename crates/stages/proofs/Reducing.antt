@@ -35,6 +35,10 @@ use Rattle.stepping.proofs.RowsOf.{list-short, plan-asked, pivots-after}
 use Rattle.parting.specs.Stages.{StepAsked, Stepped, SlackAsked}
 use Rattle.stages.specs.Columns.{RowsHeld, Room, ReduceAsked, ColumnsReduced}
 
+-- the cell of row k in the parted column reaches as far as the row and what the degrees of all rows have lost of the budget
+abbrev reach : (m budget k : ℕ) (heights : List ℕ) → ℕ
+reach m budget k heights = getD heights k 0 + (budget - total (suc m) (λ i. getD heights i 0 - 1))
+
 -- buffers of a stage
 module _ {p : ℕ} (P : Prime p) {m w wide budget : ℕ} (columns : 0 < m) {whole f : ℕ → Zp p} {r column : List ℕ}
     (held : RowsHeld p P m w wide budget whole f r column) where
@@ -61,29 +65,26 @@ module _ {p : ℕ} (P : Prime p) {m w wide budget : ℕ} (columns : 0 < m) {whol
 
     -- rows l and k are to be reduced
     module _ {l k : ℕ} (next : IsNextOf (suc m) m (valuesOf m w r) (Rows l k)) where
-      pub reducing : Reducing (suc m) m (values K m w T) l k
+      reducing : Reducing (suc m) m (values K m w T) l k
       reducing = let (q, q-is) = pair-same (suc m) m _ _ agree (next .0) (l, k) (next .1) in pair-reducing q q-is
 
-      abbrev top : ℕ
-      top = getD heights k 0 + (budget - total (suc m) (λ i. getD heights i 0 - 1))
-
-      top-is : top ≡ height m (values K m w T k) + (budget - degrees K w m T)
-      top-is = rw (sum-now, height-now k (reducing .k-fits)) refl
+      reach-is : reach m budget k heights ≡ height m (values K m w T k) + (budget - degrees K w m T)
+      reach-is = rw (sum-now, height-now k (reducing .k-fits)) refl
 
       -- the places of the parted column in row k, and what is added to row l
-      pub cell-short : Short wide (getD heights k 0 + (budget - total (suc m) (λ i. getD heights i 0 - 1))) 1 (place 1 wide k) column
+      cell-short : Short wide (reach m budget k heights) 1 (place 1 wide k) column
       cell-short = record {
         zero = λ j t lj from lt.
             held .parted .at k j t (reducing .k-fits) lj lt
-            ∙ ap (λ (x : Zp p). x .val) (stage-short K w (wide - 1) whole (held .stage) l k reducing t (omega (arith, top-is)))
+            ∙ ap (λ (x : Zp p). x .val) (stage-short K w (wide - 1) whole (held .stage) l k reducing t (omega (arith, reach-is)))
             ∙ field-zero p P;
       }
 
-      pub cell-room : 0 < wide → getD heights l 0 - getD heights k 0 + (getD heights k 0 + (budget - total (suc m) (λ i. getD heights i 0 - 1))) ≤ wide
+      cell-room : 0 < wide → getD heights l 0 - getD heights k 0 + reach m budget k heights ≤ wide
       cell-room places = omega (
         arith,
         stage-room K w (wide - 1) whole (held .stage) l k reducing,
-        top-is,
+        reach-is,
         height-now l (reducing .l-fits),
         height-now k (reducing .k-fits),
       )
@@ -93,15 +94,16 @@ module _ {p : ℕ} (P : Prime p) {m w wide budget : ℕ} (columns : 0 < m) {whol
         next-stage : Stage K w (wide - 1) whole budget m (reduce-row K m w l k T) f
         next-stage = stage-step K w (wide - 1) whole (held .stage) l k reducing
 
-        pub matrix-on : Held (by-rows (suc m) m w) p r′ (reduce-row K m w l k T)
+        matrix-on : Held (by-rows (suc m) m w) p r′ (reduce-row K m w l k T)
         matrix-on = step-held p P (suc m) m w columns r indices heights T (held .matrix) pivots l k reducing (d .factor) (d .r-move)
 
-        pub rows-on : 0 < wide → RowsHeld p P m w wide budget whole f r′ column′
+        rows-on : 0 < wide → RowsHeld p P m w wide budget whole f r′ column′
         rows-on places = record {
           T = reduce-row K m w l k T;
           matrix = matrix-on;
           parted = held-matrix-same (by-rows (suc m) 1 wide) p same
-              (step-followed p P (suc m) m w columns r indices heights T (held .matrix) pivots l k reducing (d .factor) 1 wide (held .parted) (d .column-move)
+              (step-followed p P (suc m) m w columns r indices heights T (held .matrix) pivots l k reducing (d .factor) 1 wide (held .parted)
+              (d .column-move)
               (λ i li j lj t past. ap (λ (x : ℕ → Zp p). x t) (same i j li lj) ∙ stage-column K w (wide - 1) whole next-stage i li t (omega arith)));
           stage = next-stage;
         }
@@ -129,16 +131,26 @@ pub record Going (p reciprocal m w wide budget : ℕ) (r₀ column₀ spare₀ i
   pub index-same : length indices ≡ length indices₀
   pub degree-same : length heights ≡ length heights₀
 
-pub going-start : {p reciprocal m w wide budget : ℕ} {r column spare indices heights : List ℕ} → ReduceAsked p reciprocal m w wide budget r column spare indices heights
+pub going-start : {p reciprocal m w wide budget : ℕ} {r column spare indices heights : List ℕ}
+    → ReduceAsked p reciprocal m w wide budget r column spare indices heights
     → Going p reciprocal m w wide budget r column spare indices heights r column spare indices heights
-going-start asked = record { asked = asked; by = λ P whole f h. h; r-same = refl; column-same = refl; spare-same = refl; index-same = refl; degree-same = refl }
+going-start asked = record {
+  asked = asked;
+  by = λ P whole f h. h;
+  r-same = refl;
+  column-same = refl;
+  spare-same = refl;
+  index-same = refl;
+  degree-same = refl;
+}
 
 module _ {p reciprocal m w wide budget : ℕ} {r₀ column₀ spare₀ indices₀ heights₀ r column spare indices heights : List ℕ}
     (now : Going p reciprocal m w wide budget r₀ column₀ spare₀ indices₀ heights₀ r column spare indices heights) where
   open Going now using (asked)
 
   pub next-asked : NextAsked (suc m) indices heights
-  next-asked = pivots-asked (suc m) m (valuesOf m w r) indices heights (asked .pivots) (asked .columns) (omega (arith, asked .room .columns-most)) (asked .index-room) (asked .degree-room)
+  next-asked = pivots-asked (suc m) m (valuesOf m w r) indices heights (asked .pivots) (asked .columns) (omega (arith, asked .room .columns-most))
+      (asked .index-room) (asked .degree-room)
 
   pub going-stop : IsNextOf (suc m) m (valuesOf m w r) Nothing → ColumnsReduced p m w wide budget r₀ column₀ r column indices heights
   going-stop none = record { pivots = asked .pivots; none = none; by = now .by }
@@ -153,13 +165,13 @@ module _ {p reciprocal m w wide budget : ℕ} {r₀ column₀ spare₀ indices�
     pub k-room : (k < length heights) × (k < 8)
     k-room = (omega (arith, listed .k-fits, asked .degree-room), omega (arith, listed .k-fits, asked .room .columns-most))
 
-    room : getD heights l 0 - getD heights k 0 + (getD heights k 0 + (budget - total (suc m) (λ i. getD heights i 0 - 1))) ≤ wide
+    room : getD heights l 0 - getD heights k 0 + reach m budget k heights ≤ wide
     room = cell-room (asked .prime) (asked .columns) (asked .held) (asked .pivots) next (asked .room .places)
 
-    pub top-fits : getD heights k 0 + (budget - total (suc m) (λ i. getD heights i 0 - 1)) ≤ 512
-    top-fits = omega (arith, room, asked .room .places-most)
+    pub reach-fits : reach m budget k heights ≤ 512
+    reach-fits = omega (arith, room, asked .room .places-most)
 
-    pub step-asked : StepAsked p reciprocal m w wide l k (getD heights k 0 + (budget - total (suc m) (λ i. getD heights i 0 - 1))) r column spare indices heights
+    pub step-asked : StepAsked p reciprocal m w wide l k (reach m budget k heights) r column spare indices heights
     step-asked = record {
       plan = plan-asked (suc m) m w (asked .columns) r (asked .held .matrix .size) indices heights (asked .pivots) (asked .ready) (asked .prime)
           (held-coefficients (by-rows (suc m) m w) p (asked .held .matrix)) (asked .index-room) (asked .degree-room) listed;
@@ -182,7 +194,8 @@ module _ {p reciprocal m w wide budget : ℕ} {r₀ column₀ spare₀ indices�
           (reducing (asked .prime) (asked .columns) (asked .held) (asked .pivots) next)
           (matrix-on (asked .prime) (asked .columns) (asked .held) (asked .pivots) next d)
 
-      pub going-on : {spare′ : List ℕ} → length spare′ ≡ length spare → Going p reciprocal m w wide budget r₀ column₀ spare₀ indices₀ heights₀ r′ column′ spare′ indices′ heights′
+      pub going-on : {spare′ : List ℕ} → length spare′ ≡ length spare
+          → Going p reciprocal m w wide budget r₀ column₀ spare₀ indices₀ heights₀ r′ column′ spare′ indices′ heights′
       going-on same = record {
         asked = record {
           ready = asked .ready;

@@ -78,21 +78,24 @@ module _ {p : ℕ} (P : Prime p) {m w wide budget : ℕ} (columns : 0 < m) {whol
       (λ zero. omega arith)
 
   -- where the entry of row k stands
-  pub entry-fits : k * wide + wide ≤ length column
+  entry-fits : k * wide + wide ≤ length column
   entry-fits = omega (arith, held .rows .parted .size, one-column (suc m) wide, line-end k (suc m) wide row-fits)
 
   entry : Holds p (part (k * wide) wide column) (T k m)
   entry = column-cell (held .rows .parted) k row-fits
 
-  pub entry-asked : {reciprocal : ℕ} {spare : List ℕ} → Ready p reciprocal → Room m w wide spare → MultiplyAsked p reciprocal product (part (k * wide) wide column) spare
+  entry-asked : {reciprocal : ℕ} {spare : List ℕ} → Ready p reciprocal → Room m w wide spare
+      → MultiplyAsked p reciprocal product (part (k * wide) wide column) spare
   entry-asked ready room = multiply-asked p P (held .so-far) entry ready
-      (below-more (K .ring) _ _ _ (omega (arith, held .size, room .places)) (stage-product K w (wide - 1) whole (held .rows .stage) k row-fits row-none))
+      (below-more (K .ring) _ _ _ (omega (arith, held .size, room .places))
+      (stage-product K w (wide - 1) whole (held .rows .stage) k row-fits row-none))
       (omega (arith, held .size, room .places-most)) (omega (arith, held .size, room .cell-room))
 
   left : (s : ℕ) → s < m → skip k s < suc m
   left s ls = skip-fits m k s ls
 
-  pub rows-asked : {next cells : List ℕ} → length next ≡ m * ((m - 1) * w) → length cells ≡ m * (1 * wide) → w ≤ wide → PartAsked m w wide k r next cells
+  rows-asked : {next cells : List ℕ} → length next ≡ m * ((m - 1) * w) → length cells ≡ m * (1 * wide) → w ≤ wide
+      → PartAsked m w wide k r next cells
   rows-asked = part-asked (held .rows .matrix) left columns
 
   -- the next stage
@@ -121,7 +124,8 @@ module _ {p : ℕ} (P : Prime p) {m w wide budget : ℕ} (columns : 0 < m) {whol
           (holds-signed p P (held .so-far) entry (asked .product) (eqb ((k + m) % 2) 1));
     }
 
-module _ {p reciprocal m w wide : ℕ} {r column next product spare indices : List ℕ} (asked : TakeAsked p reciprocal m w wide r column next product spare indices) where
+module _ {p reciprocal m w wide : ℕ} {r column next product spare indices : List ℕ}
+    (asked : TakeAsked p reciprocal m w wide r column next product spare indices) where
   -- the cells that the next stage has
   pub cells-fit : m * wide ≤ length column
   cells-fit = omega (arith, asked .held .rows .parted .size, one-column (suc m) wide, N.mul-le-mul-right wide (N.le-suc m))
@@ -140,7 +144,8 @@ module _ {p reciprocal m w wide : ℕ} {r column next product spare indices : Li
 
     -- it is left to the next stage in front of what else was in `column`
     module _ {next′ cells product′ : List ℕ} (rest : List ℕ) (parted : Parted m w wide k r next′ cells)
-        (made : product′ ≡ signedProduct p (eqb ((k + m) % 2) 1) product (part (k * wide) wide column)) (same : length product′ ≡ length product) where
+        (made : product′ ≡ signedProduct p (eqb ((k + m) % 2) 1) product (part (k * wide) wide column))
+        (same : length product′ ≡ length product) where
       pub taken-out : (budget : ℕ) → Staged p m w wide budget (total (suc m) (degreesOf m w r)) r column product next′ (cells ++ rest) product′
       taken-out budget = record {
         by = λ P whole h. rw (take-at cells rest (m * wide) (parted .column-size ∙ one-column m wide))
@@ -150,7 +155,8 @@ module _ {p reciprocal m w wide : ℕ} {r column next product spare indices : Li
 -- the parts of a whole stage
 module _ {p reciprocal m w wide budget : ℕ} {r column next product spare indices heights : List ℕ}
     (asked : StageAsked p reciprocal m w wide budget r column next product spare indices heights) where
-  pub reduce-asked : {indices′ heights′ : List ℕ} → Pivots (suc m) m (valuesOf m w r) indices′ heights′ → length indices′ ≡ length indices → length heights′ ≡ length heights
+  pub reduce-asked : {indices′ heights′ : List ℕ} → Pivots (suc m) m (valuesOf m w r) indices′ heights′
+      → length indices′ ≡ length indices → length heights′ ≡ length heights
       → ReduceAsked p reciprocal m w wide budget r column spare indices′ heights′
   reduce-asked pivots x y = record {
     ready = asked .ready;
@@ -166,7 +172,8 @@ module _ {p reciprocal m w wide budget : ℕ} {r column next product spare indic
   }
 
   module _ {r′ column′ indices′ heights′ : List ℕ} (reduced : ColumnsReduced p m w wide budget r column r′ column′ indices′ heights′) where
-    on : (P : Prime p) (whole : ℕ → Zp p) → StageHeld p P m w wide budget whole r column product → StageHeld p P m w wide budget whole r′ column′ product
+    on : (P : Prime p) (whole : ℕ → Zp p) → StageHeld p P m w wide budget whole r column product
+        → StageHeld p P m w wide budget whole r′ column′ product
     on P whole h = record { f = h .f; rows = reduced .by P whole (h .f) (h .rows); size = h .size; so-far = h .so-far }
 
     pub take-asked : {spare′ : List ℕ} → length spare′ ≡ length spare → length indices′ ≡ length indices
@@ -187,10 +194,14 @@ module _ {p reciprocal m w wide budget : ℕ} {r column next product spare indic
     }
 
     pub sum-asked : length heights′ ≡ length heights → SlackAsked (suc m) budget heights′
-    sum-asked y = record { room = omega (arith, asked .degree-room); enough = within-budget (asked .prime) (asked .columns) (on (asked .prime) _ (asked .held) .rows) (reduced .pivots) }
+    sum-asked y = record {
+      room = omega (arith, asked .degree-room);
+      enough = within-budget (asked .prime) (asked .columns) (on (asked .prime) _ (asked .held) .rows) (reduced .pivots);
+    }
 
-    pub staged : {next′ column″ product′ : List ℕ} {left : ℕ} → TakenOut p m w wide r′ column′ product next′ column″ product′ → length heights′ ≡ length heights
-        → left ≡ budget - total (suc m) (λ i. getD heights′ i 0 - 1) → Staged p m w wide budget (budget - left) r column product next′ column″ product′
+    pub staged : {next′ column″ product′ : List ℕ} {left : ℕ} → TakenOut p m w wide r′ column′ product next′ column″ product′
+        → length heights′ ≡ length heights → left ≡ budget - total (suc m) (λ i. getD heights′ i 0 - 1)
+        → Staged p m w wide budget (budget - left) r column product next′ column″ product′
     staged {left = left} taken y is = record {
       by = λ P whole h.
           let sum : budget - left ≡ total (suc m) (degreesOf m w r′) = omega (

@@ -1,4 +1,4 @@
-// One stage after the other.
+// One stage of the determinant.
 ghost use Rattle.stages.specs.Stage.{TakeAsked, TakenOut, StageAsked, Staged};
 use crate::columns;
 use pivots::pivot;

@@ -7,7 +7,7 @@ use Rattle.pivots.specs.Pair.{IsNextOf}
 use Rattle.pivots.specs.Pivot.{valuesOf}
 use Rattle.pivots.specs.declared.pair.Next.the-variants.{Rows}
 use Rattle.pivots.proofs.Next.{next-is}
-use Rattle.stages.proofs.Reducing.{Going, going-start, next-asked, going-stop, slack-asked, k-room, top-fits, step-asked, falls, going-on}
+use Rattle.stages.proofs.Reducing.{Going, going-start, next-asked, going-stop, slack-asked, k-room, reach-fits, step-asked, falls, going-on}
 use Rattle.stages.proofs.columns.reduce_columns.Statement.{statement}
 use Rattle.stages.proofs.columns.reduce_columns.Tie as tie
 
@@ -71,12 +71,17 @@ slack-requires : tie.Need-slack-requires Inv-loop μ-loop
 slack-requires c κs = rw add-one (slack-asked (c .before .before .before .before .before .before .before .before .loop .inv))
 
 add-top : tie.Need-add-top Inv-loop μ-loop
-add-top c = omega (arith, rw add-one at (c .slack .ensures), top-fits (c .before .before .before .before .before .before .before .before .before .loop .inv) (turn (c .before .before .before .before)))
+add-top c = omega (
+  arith,
+  rw add-one at (c .slack .ensures),
+  reach-fits (c .before .before .before .before .before .before .before .before .before .loop .inv) (turn (c .before .before .before .before)),
+)
 
 step-requires : tie.Need-step-requires Inv-loop μ-loop
 step-requires c κs =
     let made = c .before .before .before .before .before in
-    rw (made .slack .ensures, add-one) (step-asked (made .before .before .before .before .before .before .before .before .before .loop .inv) (turn (made .before .before .before .before)))
+    rw (made .slack .ensures, add-one)
+    (step-asked (made .before .before .before .before .before .before .before .before .before .loop .inv) (turn (made .before .before .before .before)))
 
 loop-less : tie.Need-loop-less Inv-loop μ-loop
 loop-less c =
@@ -88,7 +93,8 @@ loop-again : tie.Need-loop-again Inv-loop μ-loop
 loop-again c =
     let stepped = c .before .before .before .before .before .before .before .before .before .before in
     let head = stepped .before .before .before .before .before .before .before .before .before .before .before .before .before .before .before in
-    going-on (head .loop .inv) (turn (stepped .before .before .before .before .before .before .before .before .before .before)) (stepped .step .ensures) (stepped .step .kept .1 .1 .0)
+    going-on (head .loop .inv) (turn (stepped .before .before .before .before .before .before .before .before .before .before))
+    (stepped .step .ensures) (stepped .step .kept .1 .1 .0)
 
 pub reduce-columns-spec : {M : Type 1} → statement M
 reduce-columns-spec =
