@@ -1,4 +1,4 @@
-/* The proved reduction and Popov form beside plain C of the same method, in one run.
+/* The proved reduction, Popov form and determinant beside plain C of the same method, in one run.
  *
  * matrix figures  prints a line of figures for each input and service: see HEAD
  * matrix cells KIND P N D  prints the coefficients of an input, for other programs to time
@@ -152,16 +152,39 @@ static void plain_popov_form(const struct input *in, struct output *out)
     out->done = true;
 }
 
+static size_t determinant_places(const struct input *in)
+{
+    return MOORBESEN_DETERMINANT_PLACES(in->n, in->d);
+}
+
+static void proved_determinant(const struct input *in, struct output *out)
+{
+    struct moorbesen_determinant_reply reply =
+        moorbesen_determinant(in->p, in->n, in->n, in->d, in->a, places(in), out->r, determinant_places(in));
+    out->done = reply.number == 0;
+    out->counts = (struct counts){0, 0};
+}
+
+static void plain_determinant_of(const struct input *in, struct output *out)
+{
+    plain_determinant(in->p, in->n, in->d, in->a, out->r);
+    out->counts = (struct counts){0, 0};
+    out->done = true;
+}
+
 enum { PLAIN, PROVED, PROGRAMS };
 typedef void program(const struct input *in, struct output *out);
 struct service {
     const char *name;
     program *programs[PROGRAMS];
+    size_t (*result)(const struct input *in); /* places of the result */
+    bool transforms;                          /* whether U and V are written too */
 };
-enum { SERVICES = 2 };
+enum { SERVICES = 3 };
 static const struct service services[SERVICES] = {
-    {"reduction", {plain_reduction, proved_reduction}},
-    {"Popov form", {plain_popov_form, proved_popov_form}},
+    {"reduction", {plain_reduction, proved_reduction}, places, true},
+    {"Popov form", {plain_popov_form, proved_popov_form}, places, true},
+    {"determinant", {plain_determinant_of, proved_determinant}, determinant_places, false},
 };
 static struct output outputs[PROGRAMS];
 
@@ -169,14 +192,14 @@ static struct output outputs[PROGRAMS];
 static bool same(const struct service *service, const struct input *in)
 {
     const struct output *plain = &outputs[PLAIN], *proved = &outputs[PROVED];
-    const size_t bytes = places(in) * sizeof *in->a;
+    const size_t result = service->result(in) * sizeof *in->a, v = service->transforms ? places(in) * sizeof *in->a : 0;
     for (int i = 0; i < PROGRAMS; i++) {
         memset(&outputs[i], 0xfe + i, sizeof outputs[i]);
         service->programs[i](in, &outputs[i]);
     }
     return proved->done && proved->counts.first == plain->counts.first && proved->counts.second == plain->counts.second &&
-           memcmp(proved->r, plain->r, bytes) == 0 && memcmp(proved->u, plain->u, in->n * bytes) == 0 &&
-           memcmp(proved->v, plain->v, bytes) == 0;
+           memcmp(proved->r, plain->r, result) == 0 && memcmp(proved->u, plain->u, in->n * v) == 0 &&
+           memcmp(proved->v, plain->v, v) == 0;
 }
 
 /* Processor time, in microseconds, so that other work on the machine is not counted. */

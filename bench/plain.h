@@ -1,5 +1,5 @@
-/* The weak Popov form and the Popov form of a polynomial matrix, in plain C: the
- * baselines of the benchmark.
+/* The weak Popov form, the Popov form and the determinant of a polynomial matrix, in
+ * plain C: the baselines of the benchmark.
  *
  * A has n rows by m columns over the residues modulo p. p is a prime up to 65521,
  * n and m are 1 to 8, d is 0 to 63, and every coefficient of A is below p; none
@@ -28,5 +28,11 @@ struct counts plain_reduce(uint32_t p, unsigned n, unsigned m, unsigned d,
 /* The same with R in Popov form. */
 struct counts plain_popov(uint32_t p, unsigned n, unsigned m, unsigned d,
                           const uint16_t *a, uint16_t *r, uint16_t *u, uint16_t *v);
+
+/* The determinant of a matrix of n rows and n columns, in n*d+1 places, as in section 3
+ * of the report: the last column is parted from the others, the others are brought to
+ * weak Popov form, and one of their rows becomes zero; the entry that the column has
+ * there is a factor, and the row is taken out. */
+void plain_determinant(uint32_t p, unsigned n, unsigned d, const uint16_t *a, uint16_t *product);
 
 #endif

@@ -1,5 +1,5 @@
-/* Reduces the matrix of W1 (paper 01), makes one step of the reduction, and works out the Popov form.
- * bindings/rust/examples/reduce.rs prints the same text. */
+/* Reduces the matrix of W1 (paper 01), makes one step of the reduction, and works out the Popov form and the
+ * determinant. bindings/rust/examples/reduce.rs prints the same text. */
 #include "moorbesen.h"
 
 #include <inttypes.h>
@@ -7,20 +7,26 @@
 
 enum { P = 7, N = 2, M = 2, D = 2 };
 enum { A_LEN = MOORBESEN_MATRIX_PLACES(N, M, D), U_LEN = MOORBESEN_U_PLACES(N, D), V_LEN = MOORBESEN_V_PLACES(N, D) };
+enum { DET_LEN = MOORBESEN_DETERMINANT_PLACES(N, D) };
 
 /* The rows (1, x) and (x, 1 + x^2). */
 static const uint16_t a[A_LEN] = {1, 0, 0, 0, 1, 0, 0, 1, 0, 1, 0, 1};
-static uint16_t r[A_LEN], u[U_LEN], v[V_LEN];
+static uint16_t r[A_LEN], u[U_LEN], v[V_LEN], det[DET_LEN];
 
-/* Prints a matrix cell by cell, each with its places. */
+static void print_polynomial(size_t places, const uint16_t *polynomial)
+{
+    for (size_t e = 0; e < places; e++)
+        printf(" %u", polynomial[e]);
+    printf("\n");
+}
+
+/* Prints a matrix cell by cell. */
 static void print_matrix(const char *name, size_t rows, size_t columns, size_t places, const uint16_t *cell)
 {
     for (size_t i = 1; i <= rows; i++)
         for (size_t j = 1; j <= columns; j++, cell += places) {
             printf("%s%zu%zu =", name, i, j);
-            for (size_t e = 0; e < places; e++)
-                printf(" %u", cell[e]);
-            printf("\n");
+            print_polynomial(places, cell);
         }
 }
 
@@ -62,5 +68,11 @@ int main(void)
         return 1;
     printf("Popov form of rank %zu after %" PRIu64 " + %" PRIu64 " steps\n", formed.rank, formed.first, formed.second);
     print_result_and_transforms("p");
+
+    struct moorbesen_determinant_reply found = moorbesen_determinant(P, N, M, D, a, A_LEN, det, DET_LEN);
+    if (refused(found.number, found.place))
+        return 1;
+    printf("determinant =");
+    print_polynomial(DET_LEN, det);
     return 0;
 }

@@ -1,5 +1,5 @@
-/* Moorbesen for programs in C: the weak Popov form of a matrix of polynomials over Z/p, one step of it, and the
- * Popov form.
+/* Moorbesen for programs in C: the weak Popov form of a matrix of polynomials over Z/p, one step of it, the Popov form
+ * and the determinant.
  *
  * Link with target/staticlib/libmoorbesen.a, which `rt staticlib moorbesen` makes.
  *
@@ -26,10 +26,12 @@
 extern "C" {
 #endif
 
-/* The lengths of the buffers: of the input A and the result R or P, of U, of V. A cell of U takes n*(d+1) places. */
+/* The lengths of the buffers: of the input A and the result R or P, of U, of V, and of a determinant. A cell of U takes
+ * n*(d+1) places. */
 #define MOORBESEN_MATRIX_PLACES(n, m, d) ((size_t)(n) * (size_t)(m) * ((size_t)(d) + 1))
 #define MOORBESEN_U_PLACES(n, d) ((size_t)(n) * (size_t)(n) * (size_t)(n) * ((size_t)(d) + 1))
 #define MOORBESEN_V_PLACES(n, d) MOORBESEN_MATRIX_PLACES(n, n, d)
+#define MOORBESEN_DETERMINANT_PLACES(n, d) ((size_t)(n) * (size_t)(d) + 1)
 
 /* The field `number` of an answer. The checks run in this order, and the first that applies is the answer. */
 enum {
@@ -37,6 +39,7 @@ enum {
     MOORBESEN_MODULUS = 1,    /* p is not a prime in 2 to 65,521 */
     MOORBESEN_SHAPE = 2,      /* n or m is outside 1 to 8 */
     MOORBESEN_DEGREE = 3,     /* d is outside 0 to 63 */
+    MOORBESEN_SQUARE = 4,     /* a determinant is asked for, and n and m differ */
     MOORBESEN_LENGTH = 5,     /* the length of a buffer is not the one above */
     MOORBESEN_COEFFICIENT = 6 /* a coefficient of the input is p or more */
 };
@@ -73,6 +76,13 @@ struct moorbesen_popov_reply {
     uint64_t second;
 };
 
+/* The answer of the determinant. */
+struct moorbesen_determinant_reply {
+    /* As above. */
+    size_t number;
+    size_t place;
+};
+
 /* Writes R, the weak Popov form of A that the steps reach in their fixed order, and the matrices U and V with
  * U*A = R, V*R = A and U*V = V*U = identity.
  *
@@ -98,6 +108,14 @@ struct moorbesen_reply moorbesen_step(uint32_t p, size_t n, size_t m, size_t d, 
 struct moorbesen_popov_reply moorbesen_popov(uint32_t p, size_t n, size_t m, size_t d, const uint16_t *a, size_t a_len,
                                              uint16_t *r, size_t r_len, uint16_t *u, size_t u_len, uint16_t *v,
                                              size_t v_len);
+
+/* Writes the determinant of A, which has to be square, constant term first.
+ *
+ *   a   MOORBESEN_MATRIX_PLACES(n, n, d), only read
+ *   r   MOORBESEN_DETERMINANT_PLACES(n, d)
+ */
+struct moorbesen_determinant_reply moorbesen_determinant(uint32_t p, size_t n, size_t m, size_t d, const uint16_t *a,
+                                                         size_t a_len, uint16_t *r, size_t r_len);
 
 #ifdef __cplusplus
 }

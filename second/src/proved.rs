@@ -3,6 +3,7 @@
 //! feature `proved`.
 
 use crate::check::{self, Faults};
+use crate::det;
 use crate::matrix::Matrix;
 use crate::popov;
 use crate::reduce;
@@ -49,7 +50,7 @@ struct Function {
     further: fn(&Numbered) -> bool,
 }
 
-const FUNCTIONS: [Function; 3] = [
+const FUNCTIONS: [Function; 4] = [
     Function {
         service: Service::Reduction,
         call: call_reduce,
@@ -67,6 +68,12 @@ const FUNCTIONS: [Function; 3] = [
         call: call_popov,
         done: popov_form,
         further: |numbered| popov_form_multiplied_out(numbered) & pair_agrees(numbered),
+    },
+    Function {
+        service: Service::Determinant,
+        call: call_determinant,
+        done: |p, d, a| (Said::default(), vec![det::determinant_places(p, d, a)]),
+        further: determinant_at_values,
     },
 ];
 
@@ -112,6 +119,13 @@ fn call_popov(call: &Call, input: &[u16], buffers: &mut [Buffer]) -> Said {
         second_count: done.second,
         ..Said::default()
     })
+}
+
+fn call_determinant(call: &Call, input: &[u16], buffers: &mut [Buffer]) -> Said {
+    let (n, m, d) = shape(call);
+    let [r] = lent(buffers);
+    let answer = moorbesen::determinant(call.p, n, m, d, input, r);
+    said(answer, |()| Said::default())
 }
 
 /// The contents of the buffers, lent to a call that takes so many.
@@ -355,6 +369,17 @@ fn later_steps_agree(numbered: &Numbered) -> bool {
 fn popov_form_multiplied_out(numbered: &Numbered) -> bool {
     let &Sample { p, d, ref a, .. } = &numbered.sample;
     let faults = check::check_popov(p, d, a, &popov::popov_form(p, a));
+    none(&numbered.label, faults)
+}
+
+/// The determinant at values of x, and the other checks of it; a sample that is
+/// not square has none.
+fn determinant_at_values(numbered: &Numbered) -> bool {
+    let &Sample { p, d, ref a, .. } = &numbered.sample;
+    if a.rows != a.columns {
+        return true;
+    }
+    let faults = check::check_determinant(p, d, a, &reduce::reduce(p, a), &det::determinant(p, a));
     none(&numbered.label, faults)
 }
 

@@ -35,6 +35,10 @@ static struct told call_service(char service, const struct call *c, struct buffe
             moorbesen_popov(c->p, c->n, c->m, c->d, a, l[INPUT], r, l[RESULT], u, l[U], v, l[V]);
         return (struct told){x.number, x.place, {x.rank, x.first, x.second}};
     }
+    if (service == 'd') {
+        struct moorbesen_determinant_reply x = moorbesen_determinant(c->p, c->n, c->m, c->d, a, l[INPUT], r, l[RESULT]);
+        return (struct told){x.number, x.place, {0, 0, 0}};
+    }
     struct moorbesen_reply x =
         service == 's' ? moorbesen_step(c->p, c->n, c->m, c->d, a, l[INPUT], r, l[RESULT])
                        : moorbesen_reduce(c->p, c->n, c->m, c->d, a, l[INPUT], r, l[RESULT], u, l[U], v, l[V]);
@@ -65,7 +69,7 @@ static bool as_listed(char service, const struct call *c)
     if (told.number != MOORBESEN_DONE)
         return told.others[0] == 0 && told.others[1] == 0 && told.others[2] == 0 && memcmp(after, before, sizeof before) == 0;
     bool good = memcmp(&after[INPUT], &before[INPUT], sizeof before[INPUT]) == 0;
-    for (int i = RESULT; i < (service == 's' ? U : BUFFERS); i++)
+    for (int i = RESULT; i < (service == 's' || service == 'd' ? U : BUFFERS); i++)
         good = good && written(&after[i], &before[i], c->lengths[i], c->p);
     return good;
 }

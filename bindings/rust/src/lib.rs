@@ -1,5 +1,5 @@
-//! Moorbesen for programs in Rust: the weak Popov form of a matrix of polynomials over Z/p, one step of it, and the
-//! Popov form, by the proved functions of the library `moorbesen`.
+//! Moorbesen for programs in Rust: the weak Popov form of a matrix of polynomials over Z/p, one step of it, the Popov
+//! form and the determinant, by the proved functions of the library `moorbesen`.
 //!
 //! A matrix has n rows and m columns. A cell is a polynomial of degree at most d, in d + 1 places, constant term
 //! first; zeros are never left out. Cells stand row after row, in each row column after column. A coefficient is a
@@ -27,6 +27,11 @@ pub const fn v_places(n: usize, d: usize) -> usize {
     matrix_places(n, n, d)
 }
 
+/// The length of the buffer of a determinant: n·d+1.
+pub const fn determinant_places(n: usize, d: usize) -> usize {
+    n.saturating_mul(d).saturating_add(1)
+}
+
 /// Why a call was refused. The checks run in the order of the numbers, and the first that applies is the answer.
 ///
 /// | number | when | place |
@@ -34,6 +39,7 @@ pub const fn v_places(n: usize, d: usize) -> usize {
 /// | 1 | p is not a prime in 2 to 65,521 | 0 |
 /// | 2 | n or m is outside 1 to 8 | 0 |
 /// | 3 | d is outside 0 to 63 | 0 |
+/// | 4 | a determinant is asked for, and n and m differ | 0 |
 /// | 5 | the length of a buffer is not the one that is asked | the first such buffer, counted from 1 in the order of the arguments |
 /// | 6 | a coefficient of the input is p or more | its index, counted from 0, first one |
 #[derive(Clone, Copy, PartialEq, Eq, Hash, Debug)]
@@ -155,4 +161,13 @@ pub fn popov(
         second: reply.second,
     };
     answer(reply.number, reply.place, done)
+}
+
+/// Writes the determinant of A, which has to be square, constant term first.
+///
+/// `a` has [`matrix_places`], `r` has [`determinant_places`].
+pub fn determinant(p: u32, n: usize, m: usize, d: usize, a: &[u16], r: &mut [u16]) -> Result<(), Refusal> {
+    let (r, r_len) = lent(r);
+    let reply = unsafe { raw::moorbesen_determinant(p, n, m, d, a.as_ptr(), a.len(), r, r_len) };
+    answer(reply.number, reply.place, ())
 }

@@ -18,6 +18,12 @@ pub struct PopovReply {
     pub second: u64,
 }
 
+#[repr(C)]
+pub struct DeterminantReply {
+    pub number: usize,
+    pub place: usize,
+}
+
 extern "C" {
     pub fn moorbesen_reduce(
         p: u32,
@@ -59,4 +65,15 @@ extern "C" {
         v: *mut u16,
         v_len: usize,
     ) -> PopovReply;
+
+    pub fn moorbesen_determinant(
+        p: u32,
+        n: usize,
+        m: usize,
+        d: usize,
+        a: *const u16,
+        a_len: usize,
+        r: *mut u16,
+        r_len: usize,
+    ) -> DeterminantReply;
 }

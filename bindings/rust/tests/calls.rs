@@ -1,7 +1,7 @@
 //! Makes the calls of tests/bindings/calls.txt through the safe functions. Each answer has its number and place. In a
 //! refusal no buffer is touched; else every place is written.
 
-use moorbesen::{popov, reduce, step, Refusal};
+use moorbesen::{determinant, popov, reduce, step, Refusal};
 
 const CALLS: &str = include_str!("../../../tests/bindings/calls.txt");
 
@@ -79,10 +79,16 @@ fn popov_forms() {
 }
 
 #[test]
+fn determinants() {
+    as_listed('d', 1, |p, [n, m, d], a, [r, _, _]| determinant(p, n, m, d, a, r));
+}
+
+#[test]
 fn lengths_of_the_table() {
     assert_eq!(moorbesen::matrix_places(2, 3, 1), 12);
     assert_eq!(moorbesen::u_places(8, 63), 32_768);
     assert_eq!(moorbesen::v_places(8, 63), 4_096);
+    assert_eq!(moorbesen::determinant_places(8, 63), 505);
     // No number is refused by a panic.
     assert_eq!(moorbesen::u_places(usize::MAX, usize::MAX), usize::MAX);
 }

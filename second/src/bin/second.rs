@@ -1,6 +1,6 @@
 //! second check COUNT SEED
 //!     runs COUNT samples and pairs through all checks of this program;
-//! second compare step|reduce|popov COUNT SEED
+//! second compare step|reduce|popov|determinant COUNT SEED
 //!     compares with the proved program (feature `proved`);
 //! second print
 //!     is the printer: it answers the text at its standard input;
@@ -15,7 +15,7 @@ use std::process::ExitCode;
 
 const USAGE: &str = "\
 use: second check COUNT SEED
-     second compare step|reduce|popov COUNT SEED
+     second compare step|reduce|popov|determinant COUNT SEED
      second print
      second fuzz PRINTER COUNT SEED";
 
@@ -53,6 +53,7 @@ fn service(name: &str) -> Result<Service, String> {
         "step" => Ok(Service::SingleStep),
         "reduce" => Ok(Service::Reduction),
         "popov" => Ok(Service::PopovForm),
+        "determinant" => Ok(Service::Determinant),
         _ => Err(USAGE.to_string()),
     }
 }
