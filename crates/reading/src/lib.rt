@@ -85,7 +85,7 @@ fn wide(b: u8) -> u32
 }
 
 // "Numbers have 1 to 5 digits, a value up to 65,535, and no needless leading zero; 0 itself is written 0."
-pub fn read_number(s: &[u8], at: usize) -> Number
+fn read_number(s: &[u8], at: usize) -> Number
     requires { ⌜ at ≤ length (now s) ⌝ }
     ensures { λ r. ⌜ NumberRead (number (drop at (now (s .entry)))) (now (s .entry)) r ⌝ }
 {
@@ -162,7 +162,7 @@ fn read_numbers(s: &[u8], at: usize, room: &mut [u16]) -> Line
 }
 
 // A line with this key and as many numbers as the room has places.
-pub fn read_line(s: &[u8], at: usize, key: &[u8], room: &mut [u16]) -> Line
+fn read_line(s: &[u8], at: usize, key: &[u8], room: &mut [u16]) -> Line
     requires { ⌜ at ≤ length (now s) ⌝ }
     ensures { λ r. ⌜ LineRead (readLine (now (key .entry)) (length (now (room .entry))) (drop at (now (s .entry)))) (now (s .entry)) (now (room .exit)) r ⌝ }
 {

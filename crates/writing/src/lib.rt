@@ -90,7 +90,7 @@ fn put_row(out: &mut [u8], at: usize, l: &[u16]) -> usize
 }
 
 // A line: its key, and then its numbers.
-pub fn put_line(out: &mut [u8], at: usize, key: &[u8], l: &[u16]) -> usize
+fn put_line(out: &mut [u8], at: usize, key: &[u8], l: &[u16]) -> usize
     requires { ⌜ Room (now out) at (line (now key) (now l)) ⌝ }
     ensures { λ r. ⌜ Wrote (now (out .entry)) at (line (now (key .entry)) (now (l .entry))) r (now (out .exit)) ⌝ }
 {
@@ -99,7 +99,7 @@ pub fn put_line(out: &mut [u8], at: usize, key: &[u8], l: &[u16]) -> usize
 }
 
 // A line with one number.
-pub fn put_field(out: &mut [u8], at: usize, key: &[u8], v: usize) -> usize
+fn put_field(out: &mut [u8], at: usize, key: &[u8], v: usize) -> usize
     requires { ⌜ Room (now out) at (line (now key) (v ∷ [])) ⌝ }
     ensures { λ r. ⌜ Wrote (now (out .entry)) at (line (now (key .entry)) (v ∷ [])) r (now (out .exit)) ⌝ }
 {
