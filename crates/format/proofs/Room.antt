@@ -8,6 +8,7 @@ use native.Mathlib.Nat.{suc-mul, mul-le-mul}
 use lib.ListN.{length, getD, take, drop, length-append, length-take, length-drop, length-set}
 use lib.Seq.{length-take-le, getD-take, getD-drop}
 use lib.Dec.{eqb}
+use borrow.Author.Tests.{eqb-true}
 use Rattle.format.specs.Number.{decimalBy, decimal}
 use Rattle.format.specs.Line.{bytes, cellKey, row, line, lines}
 use Rattle.format.specs.Answer.{refusalText, countsText, resultText, determinantText, answerText, outputRoom}
@@ -77,7 +78,7 @@ pub record Answerable (rank steps n m d : ℕ) (r det : List ℕ) : Type 0 where
   pub result-size : n * m * (d + 1) ≤ length r
   pub result-small : Writable r
   pub determinant-size : length det ≤ 505
-  pub determinant-small : Writable det
+  pub determinant-small : n ≡ m → Writable det
 
 module _ (rank steps n m d : ℕ) (r det : List ℕ) (h : Answerable rank steps n m d r det) where
   result-length : length (resultText n m d r) ≤ 64 * 388
@@ -89,11 +90,11 @@ module _ (rank steps n m d : ℕ) (r det : List ℕ) (h : Answerable rank steps 
       omega (arith, most, lines-length (cellKey (bytes "r11=") m) four (d + 1) (n * m) 0 r (h .result-small) (h .result-size))
 
   determinant-length : length (determinantText n m det) ≤ 3034
-  determinant-length = go (eqb n m)
+  determinant-length = go (eqb n m) refl
     where
-      go : (b : Bool) → length (cond b (line (bytes "det=") det) []) ≤ 3034
-      go true = omega (arith, line-length (bytes "det=") det (h .determinant-small), h .determinant-size)
-      go false = omega arith
+      go : (b : Bool) → eqb n m ≡ b → length (cond b (line (bytes "det=") det) []) ≤ 3034
+      go true square = omega (arith, line-length (bytes "det=") det (h .determinant-small (eqb-true n m square)), h .determinant-size)
+      go false differ = omega arith
 
   pub answer-length : length (answerText rank steps n m d r det) ≤ outputRoom
   answer-length = omega (

@@ -16,7 +16,7 @@ use Rattle.matrix.specs.declared.determining.DeterminantAnswer.{Determin
 use Rattle.matrix.specs.declared.determining.DeterminantAnswer.the-variants.{NotDone, Done}
 
 -- the input determines the result, in every place
-determinant-unique : {p n d : ℕ} {a r r′ : List ℕ} → Prime p → IsDeterminant p n d a r → IsDeterminant p n d a r′ → r ≡ r′
+pub determinant-unique : {p n d : ℕ} {a r r′ : List ℕ} → Prime p → IsDeterminant p n d a r → IsDeterminant p n d a r′ → r ≡ r′
 determinant-unique {p} {n} {d} P x y = held-unique (by-rows 1 1 (n * d + 1)) p (x .by P (omega (arith, P .two))) (y .by P (omega (arith, P .two)))
 
 -- an answer is determined by its numbers

@@ -48,7 +48,7 @@ reduced-unique p n m w c c′ a r u v r′ u′ v′ P x y =
     (counts, same-r, same-u, same-v)
 
 -- so it determines all that is returned, for rank and rows are read off the result
-done-unique : {p n m w rank count rows rank′ count′ rows′ : ℕ} {a r u v r′ u′ v′ : List ℕ} → Prime p
+pub done-unique : {p n m w rank count rows rank′ count′ rows′ : ℕ} {a r u v r′ u′ v′ : List ℕ} → Prime p
     → IsDone p n m w a r u v rank count rows → IsDone p n m w a r′ u′ v′ rank′ count′ rows′
     → _≡_ {A = ℕ × ℕ × ℕ × List ℕ × List ℕ × List ℕ} (rank, count, rows, r, u, v) (rank′, count′, rows′, r′, u′, v′)
 done-unique {p} {n} {m} {w} {rank} {count} {rows} {rank′} {count′} {rows′} {a} {r} {u} {v} {r′} {u′} {v′} P x y =

@@ -36,14 +36,7 @@ fn refusal(number: usize, place: usize) -> Reply
 fn refused(x: Refusal) -> Reply
     ensures { λ y. ⌜ Refusing (numberOf x) (placeOf x) y ⌝ }
 {
-    match x {
-        Refusal::Modulus => refusal(1, 0),
-        Refusal::Shape => refusal(2, 0),
-        Refusal::Degree => refusal(3, 0),
-        Refusal::Square => refusal(4, 0),
-        Refusal::Length(k) => refusal(5, k),
-        Refusal::Coefficient(i) => refusal(6, i),
-    }
+    refusal(refusals::number_of(x), refusals::place_of(x))
 }
 
 #[no_mangle]

@@ -6,6 +6,7 @@ ghost use mathlib.Core.Logic.{_↔_};
 ghost use Prim.Native.Nat.{_+_, _*_, _≤_};
 ghost use mathlib.Core.List.{[], _∷_};
 ghost use lib.ListN.{length};
+ghost use Rattle.refusals.specs.Number.{numberOf, placeOf};
 ghost use Rattle.refusals.specs.Refused.{Verdict, FirstHigh, reductionSizes, stepSizes, determinantSizes};
 ghost use Rattle.refusals.specs.Part.{OfNumbers, OfLengths, OfMatrix, OfCoefficients};
 use residues::Modulus;
@@ -23,6 +24,33 @@ pub enum Refusal {
 pub enum Check {
     Fine,
     Refused(Refusal),
+}
+
+// The number and the place of a refusal, by the refusal table.
+pub fn number_of(x: Refusal) -> usize
+    ensures { λ r. ⌜ r ≡ numberOf x ⌝ }
+{
+    match x {
+        Refusal::Modulus => 1,
+        Refusal::Shape => 2,
+        Refusal::Degree => 3,
+        Refusal::Square => 4,
+        Refusal::Length(_) => 5,
+        Refusal::Coefficient(_) => 6,
+    }
+}
+
+pub fn place_of(x: Refusal) -> usize
+    ensures { λ r. ⌜ r ≡ placeOf x ⌝ }
+{
+    match x {
+        Refusal::Modulus => 0,
+        Refusal::Shape => 0,
+        Refusal::Degree => 0,
+        Refusal::Square => 0,
+        Refusal::Length(k) => k,
+        Refusal::Coefficient(i) => i,
+    }
 }
 
 // The index of the first coefficient that is p or more, or the number of places.

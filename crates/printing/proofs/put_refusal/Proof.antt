@@ -1,0 +1,21 @@
+use mathlib.Core.Path.{refl}
+use native.Mathlib.Omega.{arith}
+use Prim.Native.Nat.{_≤_}
+use lib.ListN.{length}
+use Rattle.format.specs.Answer.{refusalText, outputRoom}
+use Rattle.format.proofs.Room.{refusal-length}
+use Rattle.printing.proofs.Answers.{output}
+use Rattle.printing.proofs.put_refusal.Statement.{statement}
+use Rattle.printing.proofs.put_refusal.Tie as tie
+
+fits : (c : tie.Start) → length (refusalText (c .args .number) (c .args .place)) ≤ outputRoom
+fits c = refusal-length (c .args .number) (c .args .place) (omega arith) (omega arith)
+
+put-refusal-requires : tie.Need-put-refusal-requires
+put-refusal-requires c κs = record { fits = omega (arith, fits (c .before), c .put-refusal-arg .given) }
+
+returns : tie.Need-returns
+returns c = output refl (fits (c .before .before)) (c .put-refusal .ensures)
+
+pub put-refusal-spec : {M : Type 1} → statement M
+put-refusal-spec = tie.close (tie.spec put-refusal-requires returns)

@@ -1,0 +1,23 @@
+use mathlib.Core.Path.{ap₂, _∙_}
+use borrow.Author.Needs.{needs}
+use Rattle.format.specs.Answer.{refusalText}
+use Rattle.printing.proofs.Answers.{output-as}
+use Rattle.printing.proofs.put_refused.Statement.{statement}
+use Rattle.printing.proofs.put_refused.Tie as tie
+
+number-of-requires : tie.Need-number-of-requires
+number-of-requires c κs = search needs
+
+place-of-requires : tie.Need-place-of-requires
+place-of-requires c κs = search needs
+
+put-refusal-requires : tie.Need-put-refusal-requires
+put-refusal-requires c κs = search needs
+
+returns : tie.Need-returns
+returns c =
+    let place = c .before in
+    output-as (λ w is. is ∙ ap₂ refusalText (place .before .number-of .ensures) (place .place-of .ensures)) (c .put-refusal .ensures)
+
+pub put-refused-spec : {M : Type 1} → statement M
+put-refused-spec = tie.close (tie.spec number-of-requires place-of-requires put-refusal-requires returns)
