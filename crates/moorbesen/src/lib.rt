@@ -145,10 +145,9 @@ pub struct DeterminantReply {
 fn determinant_refused(x: Refusal) -> DeterminantReply
     ensures { λ y. ⌜ DeterminantRefusing (numberOf x) (placeOf x) y ⌝ }
 {
-    let y = refused(x);
     DeterminantReply {
-        number: y.number,
-        place: y.place,
+        number: refusals::number_of(x),
+        place: refusals::place_of(x),
     }
 }
 
