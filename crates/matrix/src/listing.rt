@@ -1,7 +1,6 @@
 // The rows that are not zero, by their pivot indices.
 ghost use mathlib.Core.Path.{_≡_};
-ghost use Prim.Native.Nat.{_≤_};
-ghost use lib.ListN.{length, getD};
+ghost use lib.ListN.{getD};
 ghost use Rattle.reduction.specs.Rank.{sign};
 ghost use Rattle.matrix.specs.Listed.{ListAsked, IsListed};
 
