@@ -8,28 +8,26 @@ use native.Mathlib.Omega.{arith}
 use lib.ListN.{length, take}
 use lib.Seq.{length-take-le}
 use Rattle.poly.specs.Polynomial.{Coefficients}
-use Rattle.buffers.specs.Held.{Held}
 use Rattle.buffers.proofs.Held.{held-coefficients}
 use Rattle.buffers.proofs.Place.{by-rows}
 use Rattle.refusals.specs.Answering.{Told}
 use Rattle.refusals.specs.Refused.{Numbers, InSquare, refusalTable}
-use Rattle.refusals.specs.declared.Refusal.{Refusal}
 use Rattle.refusals.proofs.Answering.{refusal-number}
 use Rattle.refusals.proofs.Verdicts.{all-right, matrix-few}
 use Rattle.refusals.proofs.Unique.{told-unique}
 use Rattle.matrix.specs.Reduced.{ReducedBy}
-use Rattle.matrix.specs.Answer.{IsDone, Answered, numberOf, rankOf, countOf, rowsOf}
+use Rattle.matrix.specs.Answer.{Answered}
 use Rattle.matrix.specs.declared.reducing.Answer.{Answer}
 use Rattle.matrix.specs.declared.reducing.Answer.the-variants.{NotDone, Done}
 use Rattle.matrix.specs.Determinant.{DeterminantPromised}
-use Rattle.format.specs.Answer.{refusalText, answerText, outputRoom}
+use Rattle.format.specs.Answer.{refusalText, outputRoom}
 use Rattle.format.specs.File.{headLines, numbersOf, headModulus, headRows, headColumns, headDegree, bodyLines}
-use Rattle.format.proofs.Room.{Writable, Answerable, refusal-length, answer-length}
+use Rattle.format.proofs.Room.{Writable, Answerable}
 use Rattle.files.specs.Input.{FileRead, inputNumber, inputPlace}
 use Rattle.files.specs.declared.Input.{Input}
 use Rattle.files.specs.declared.Input.the-variants.{Matrix}
 use Rattle.files.proofs.Accepted.{accepted}
-use Rattle.writing.specs.Wrote.{Wrote, Room}
+use Rattle.writing.specs.Wrote.{Wrote}
 use Rattle.printing.specs.Printed.{MatrixAnswer, Printed, Output}
 use Rattle.printing.specs.Asked.{MatrixAsked, Determined, ResultAsked}
 
@@ -57,24 +55,18 @@ module _ {p n m d : ℕ} {a : List ℕ} (asked : MatrixAsked p n m d a) where
     determinant = λ square. promised .done (not-refused true square (λ i. asked .size i ∷ size i ∷ []) (promised .told));
   }
 
-  -- the reduction of such a matrix
-  module _ {r u v r′ u′ v′ : List ℕ} (r-size : length r ≡ n * (m * (d + 1))) (u-size : length u ≡ n * (n * (n * (d + 1))))
-      (v-size : length v ≡ n * (n * (d + 1))) (x : Answer) (answered : Answered p n m d a r u v r′ u′ v′ x) where
-    reduced-number : numberOf x ≡ 0
-    reduced-number = not-refused false tt (λ i. asked .size i ∷ r-size i ∷ u-size i ∷ v-size i ∷ []) (answered .told)
+-- the answer of the reduction is no refusal, and r is the result
+abbrev pub ReducedTo : (p n m d : ℕ) (a r : List ℕ) → Answer → Type 0
+ReducedTo p n m d a r (NotDone y) = ⊥
+ReducedTo p n m d a r (Done rank count rows) = ResultAsked p n m d a r rank count
 
-    pub reduction-refuses : (y : Refusal) → x ≡ NotDone y → ⊥
-    reduction-refuses y is = omega (arith, refusal-number y, sym (ap numberOf is) ∙ reduced-number)
-
-    pub reduction-done : {rank count rows : ℕ} (l : List ℕ) → x ≡ Done rank count rows → l ≡ r′ → ResultAsked p n m d a l rank count
-    reduction-done {rows = rows} l is same = record {
-      matrix = asked;
-      u = u′;
-      v = v′;
-      rows = rows;
-      reduced = subst (λ (y : Answer). IsDone p n m (d + 1) a l u′ v′ (rankOf y) (countOf y) (rowsOf y)) is
-          (subst⁻¹ (λ (k : List ℕ). IsDone p n m (d + 1) a k u′ v′ (rankOf x) (countOf x) (rowsOf x)) same (answered .done reduced-number));
-    }
+pub reduced-to : {p n m d : ℕ} {a r u v r′ u′ v′ : List ℕ} → MatrixAsked p n m d a → length r ≡ n * (m * (d + 1))
+    → length u ≡ n * (n * (n * (d + 1))) → length v ≡ n * (n * (d + 1)) → (x : Answer) → Answered p n m d a r u v r′ u′ v′ x
+    → ReducedTo p n m d a r′ x
+reduced-to asked r-size u-size v-size (NotDone y) answered =
+    omega (arith, refusal-number y, not-refused asked false tt (λ i. asked .size i ∷ r-size i ∷ u-size i ∷ v-size i ∷ []) (answered .told))
+reduced-to {u′ = u′} {v′} asked r-size u-size v-size (Done rank count rows) answered =
+    record { matrix = asked; u = u′; v = v′; rows = rows; reduced = answered .done refl }
 
 -- a determinant has at most 505 places
 pub determinant-few : {p n m d : ℕ} → Numbers p n m d → n * d + 1 ≤ 505
@@ -115,7 +107,8 @@ module _ {p n m d : ℕ} {a r det : List ℕ} {rank count : ℕ} (asked : Result
 
 module _ (s : List ℕ) {room : List ℕ} where
   -- a text that is refused
-  pub printed-refused : (x : Input) {w : List ℕ} → FileRead s room x → 0 < inputNumber x → w ≡ refusalText (inputNumber x) (inputPlace x) → Printed s w
+  pub printed-refused : (x : Input) {w : List ℕ} → FileRead s room x → 0 < inputNumber x → w ≡ refusalText (inputNumber x) (inputPlace x)
+      → Printed s w
   printed-refused x found some is = record {
     number = inputNumber x;
     place = inputPlace x;

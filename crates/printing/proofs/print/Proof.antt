@@ -8,6 +8,7 @@ use lib.Seq.{length-take-le}
 use Rattle.refusals.proofs.Answering.{refusal-number}
 use Rattle.refusals.proofs.Verdicts.{row-few, matrix-few}
 use Rattle.files.specs.Input.{FileRead}
+use Rattle.files.specs.declared.Input.{Input}
 use Rattle.files.specs.declared.Input.the-variants.{Format, Refused, Matrix}
 use Rattle.printing.specs.Asked.{MatrixAsked}
 use Rattle.printing.proofs.Answers.{output-as, printed-refused, printed-matrix, matrix-asked}
@@ -30,13 +31,16 @@ room c = called c .read-file .last .1 .0
 full : (c : tie.After-room2) → length (room c) ≡ 4096
 full c = called c .read-file .kept .1 .0 ∙ called c .before .before .places .ensures
 
+as-read : (c : tie.After-room2) {x : Input} → called c .read-file .result ≡ x → FileRead (text c) (room c) x
+as-read c is = subst (FileRead (text c) (room c)) is (called c .read-file .ensures)
+
 -- the matrix that was read
 abbrev arm : tie.After-p → tie.After-room2
 arm c = c .before .before
 
 matrix : (c : tie.After-p) → let found = c .p .given .0 in
     FileRead (text (arm c)) (room (arm c)) (Matrix (found .0) (found .1 .0) (found .1 .1 .0) (found .1 .1 .1 .0))
-matrix c = subst (FileRead (text (arm c)) (room (arm c))) (c .p .given .1) (called (arm c) .read-file .ensures)
+matrix c = as-read (arm c) (c .p .given .1)
 
 asked : (c : tie.After-p) → let found = c .p .given .0 in
     MatrixAsked (found .0) (found .1 .0) (found .1 .1 .0) (found .1 .1 .1 .0)
@@ -92,15 +96,13 @@ returns : tie.Need-returns
 returns c =
     let found = c .before .before .before in
     let read = found .before .before in
-    output-as (λ w is. printed-refused (text read) (Format _) (subst (FileRead _ _) (found .line .given .1) (called read .read-file .ensures)) (omega arith) is)
-    (c .put-refusal .ensures)
+    output-as (λ w is. printed-refused (text read) (Format _) (as-read read (found .line .given .1)) (omega arith) is) (c .put-refusal .ensures)
 
 returns-2 : tie.Need-returns-2
 returns-2 c =
     let found = c .before .before .before in
     let read = found .before .before in
-    output-as (λ w is. printed-refused (text read) (Refused _) (subst (FileRead _ _) (found .x .given .1) (called read .read-file .ensures))
-    (refusal-number (found .x .given .0 .0)) is)
+    output-as (λ w is. printed-refused (text read) (Refused _) (as-read read (found .x .given .1)) (refusal-number (found .x .given .0 .0)) is)
     (c .put-refused .ensures)
 
 returns-3 : tie.Need-returns-3

@@ -1,13 +1,13 @@
-use mathlib.Core.Path.{_≡_, sym, _∙_}
+use mathlib.Core.Path.{_≡_, sym, subst, subst⁻¹, _∙_}
 use mathlib.Core.List.{List, _++_}
 use Prim.Native.Nat.{ℕ, _+_, _*_, _≤_}
 use borrow.Author.Needs.{needs}
 use native.Mathlib.Omega.{arith}
-use lib.ListN.{length, take, drop, length-append}
-use lib.Seq.{length-take-le, take-at}
+use lib.ListN.{length, take, drop}
+use lib.Seq.{length-take-le, length-front, take-at}
 use Rattle.refusals.specs.Refused.{Numbers}
 use Rattle.refusals.proofs.Verdicts.{row-few, matrix-few, cell-few, square-few, transform-few}
-use Rattle.printing.proofs.Answers.{reduction-refuses, reduction-done}
+use Rattle.printing.proofs.Answers.{ReducedTo, reduced-to}
 use Rattle.printing.proofs.put_matrix.Statement.{statement}
 use Rattle.printing.proofs.put_matrix.Tie as tie
 
@@ -54,7 +54,18 @@ new-places : (c : tie.After-reduce) → length (new c) ≡ r-size (made c)
 new-places c = c .reduce .kept .1 .1 .1 .1 .1 .0 ∙ length-take-le _ _ (r-within (made c))
 
 after-within : (c : tie.After-reduce) → r-size (made c) ≤ length (after c)
-after-within c = simp length-append (omega (arith, new-places c))
+after-within c = omega (arith, r-within (made c), length-front _ (new c) (r-size (made c)) (c .reduce .kept .1 .1 .1 .1 .1 .0))
+
+-- it was not refused
+result : (c : tie.After-reduce) → let args = start (made c) .args in
+    ReducedTo (args .p) (args .n) (args .m) (args .d) (args .a .now) (take (r-size (made c)) (after c)) (c .reduce .result)
+result c =
+    let at = made c in
+    let args = start at .args in
+    subst⁻¹ (λ (l : List ℕ). ReducedTo (args .p) (args .n) (args .m) (args .d) (args .a .now) l (c .reduce .result))
+    (take-at _ _ (r-size at) (new-places c))
+    (reduced-to (start at .pre) (length-take-le _ _ (r-within at)) (length-take-le _ _ (u-within at)) (length-take-le _ _ (v-within at))
+    (c .reduce .result) (c .reduce .ensures))
 
 places-requires : tie.Need-places-requires
 places-requires c κs = search needs
@@ -128,18 +139,12 @@ slice-aggregate-put-result c = sym (length-take-le _ _ (after-within (reduced (c
 put-result-requires : tie.Need-put-result-requires
 put-result-requires c κs =
     let found = c .before .before .before in
-    let call = reduced (found .before .before) in
-    let at = made call in
-    reduction-done (start at .pre) (length-take-le _ _ (r-within at)) (length-take-le _ _ (u-within at)) (length-take-le _ _ (v-within at))
-    (call .reduce .result) (call .reduce .ensures) (take (r-size at) (after call)) (found .rank .given .1) (take-at _ _ (r-size at) (new-places call))
+    subst (ReducedTo _ _ _ _ _ _) (found .rank .given .1) (result (reduced (found .before .before)))
 
 returns : tie.Need-returns
 returns c =
     let found = c .before .before .before in
-    let call = reduced (found .before .before) in
-    let at = made call in
-    absurd (reduction-refuses (start at .pre) (length-take-le _ _ (r-within at)) (length-take-le _ _ (u-within at)) (length-take-le _ _ (v-within at))
-    (call .reduce .result) (call .reduce .ensures) _ (found .x .given .1))
+    absurd (subst (ReducedTo _ _ _ _ _ _) (found .x .given .1) (result (reduced (found .before .before))))
 
 returns-2 : tie.Need-returns-2
 returns-2 c = c .put-result .ensures

@@ -3,8 +3,8 @@ use mathlib.Core.List.{List, _++_}
 use Prim.Native.Nat.{ℕ, _+_, _*_, _≤_}
 use borrow.Author.Needs.{needs}
 use native.Mathlib.Omega.{arith}
-use lib.ListN.{length, take, drop, length-append}
-use lib.Seq.{length-take-le, take-at}
+use lib.ListN.{length, take, drop}
+use lib.Seq.{length-take-le, length-front, take-at}
 use Rattle.format.specs.Answer.{answerText, outputRoom}
 use Rattle.format.proofs.Room.{Answerable, answer-length}
 use Rattle.printing.specs.Asked.{Determined}
@@ -38,7 +38,7 @@ new-places : (c : tie.After-determine) → length (new c) ≡ size (made c)
 new-places c = c .determine .kept .1 .1 .1 .1 .1 .0 ∙ length-take-le _ _ (within (made c))
 
 after-within : (c : tie.After-determine) → size (made c) ≤ length (after c)
-after-within c = simp length-append (omega (arith, new-places c))
+after-within c = omega (arith, within (made c), length-front _ (new c) (size (made c)) (c .determine .kept .1 .1 .1 .1 .1 .0))
 
 abbrev front : tie.After-determine → List ℕ
 front c = take (size (made c)) (after c)
