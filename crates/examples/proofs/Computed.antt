@@ -36,8 +36,9 @@ use Rattle.stepping.specs.Holding.{Holding}
 use Rattle.matrix.specs.Listed.{maskOf}
 use Rattle.matrix.specs.Reduced.{ReducedBy}
 use Rattle.matrix.specs.Popov.{PopovBy}
-use Rattle.examples.specs.Answers.{Answers, ArePivots, IsDeterminant}
-use Rattle.examples.proofs.Listing.{listing, length-listing, getD-listing, holds-listing, written, held-written}
+use Rattle.matrix.specs.Determinant.{IsDeterminant}
+use Rattle.examples.specs.Answers.{Answers, ArePivots}
+use Rattle.examples.proofs.Listing.{listing, length-listing, getD-listing, written, held-written}
 
 -- what holds by one proof of primality holds by every one
 pub by-any : {p : ℕ} (X : Prime p → 0 < p → Type 0) {P : Prime p} {some : 0 < p} → X P some → (P′ : Prime p) (some′ : 0 < p) → X P′ some′
@@ -149,11 +150,10 @@ module _ {p n d : ℕ} {a : List ℕ} (taken : Taken p n n d a) where
   expansion = det (series (K taken .ring)) n (A taken)
 
   abbrev pub expanded : List ℕ
-  expanded = listing (n * d + 1) (λ k. expansion k .val)
+  expanded = written (prime taken) 1 1 (n * d + 1) (λ _ _. expansion)
 
   pub is-determinant : IsDeterminant p n d a expanded
   is-determinant = record {
-    size = length-listing (n * d + 1) _;
-    holds = by-any (λ P some. _) {P = prime taken} {some = positive taken} (holds-listing (prime taken) (n * d + 1) expansion
-        (λ k past. det-below (K taken .ring) n d (A taken) (λ i li j lj t l. bounded taken i li j lj t (omega arith)) k (omega arith)));
+    by = by-any (λ P some. _) {P = prime taken} {some = positive taken} (held-written (prime taken) 1 1 (n * d + 1) (λ _ _. expansion)
+        (λ _ _ _ _ k past. det-below (K taken .ring) n d (A taken) (λ i li j lj t l. bounded taken i li j lj t (omega arith)) k (omega arith)));
   }

@@ -1,20 +1,18 @@
--- Numbers, polynomials and matrices written out as lists.
+-- Numbers and matrices written out as lists.
 use mathlib.Core.Path.{_≡_, ap, _∙_}
 use mathlib.Core.List.{List}
-use Prim.Native.Nat.{ℕ, _+_, _*_, _/_, _%_, _≤_, _<_}
+use Prim.Native.Nat.{ℕ, _+_, _*_, _/_, _%_, _<_}
 use native.Mathlib.Nat as N
 use native.Mathlib.Omega.{arith}
 use lib.ListN.{length, getD, replicate, length-replicate}
 use Rattle.algebra.specs.Prime.{Prime}
 use Rattle.algebra.specs.Residue.{Zp}
-use Rattle.algebra.specs.Polynomial.{Below}
 use Rattle.algebra.proofs.PrimeField.{zp-field, field-zero}
 use Rattle.lists.specs.Change.{imap}
-use Rattle.lists.proofs.Change.{length-imap, getD-imap, getD-imap-every}
+use Rattle.lists.proofs.Change.{length-imap, getD-imap}
 use Rattle.lists.proofs.Grid.{within}
 use Rattle.lattice.specs.Row.{Row}
 use Rattle.lattice.specs.PolynomialMatrix.{AllBounded}
-use Rattle.poly.specs.Reading.{Holds}
 use Rattle.buffers.specs.Held.{Held}
 use Rattle.buffers.specs.Place.{inRow, place}
 use Rattle.buffers.proofs.Place.{block-own, place-inside, by-rows}
@@ -31,11 +29,6 @@ pub getD-listing : (count : ℕ) (f : ℕ → ℕ) (i : ℕ) → i < count → g
 unfolding listing
 getD-listing count f i l = getD-imap _ (replicate count 0) i (omega (arith, length-replicate {A = ℕ} count 0))
 
--- at every index, where f is 0 from `count` on
-getD-listing-every : (count : ℕ) (f : ℕ → ℕ) (i : ℕ) → (count ≤ i → f i ≡ 0) → getD (listing count f) i 0 ≡ f i
-unfolding listing
-getD-listing-every count f i h = getD-imap-every _ (replicate count 0) i (λ past. h (omega (arith, length-replicate {A = ℕ} count 0)))
-
 -- a place tells its block and its place in the block
 block : (s i r : ℕ) → r < s → ((i * s + r) / s ≡ i) × ((i * s + r) % s ≡ r)
 block s i r l = block-own s _ _ i r (N.mod-lt (i * s + r) (omega arith)) l (N.div-add-mod' (i * s + r) s)
@@ -43,10 +36,6 @@ block s i r l = block-own s _ _ i r (N.mod-lt (i * s + r) (omega arith)) l (N.di
 module _ {p : ℕ} (P : Prime p) where
   number-zero : {c : Zp p} → c ≡ zp-field p P .ring .𝟘 → c .val ≡ 0
   number-zero e = ap (λ (c : Zp p). c .val) e ∙ field-zero p P
-
-  -- a polynomial in as many places as it needs
-  pub holds-listing : (count : ℕ) (f : ℕ → Zp p) → Below (zp-field p P .ring) f count → Holds p (listing count (λ k. f k .val)) f
-  holds-listing count f below = record { at = λ k. getD-listing-every count (λ k. f k .val) k (λ past. number-zero (below k past)) }
 
   -- a matrix: "Cells stand row after row, in each row column after column."
   module _ (n m w : ℕ) (M : ℕ → Row (Zp p)) where

@@ -9,7 +9,8 @@ use native.Mathlib.Decide.{ℕ-discrete}
 use lib.ListN.{length}
 use Rattle.refusals.specs.Answering.{Told}
 use Rattle.refusals.specs.Refused.{refusalTable}
-use Rattle.examples.specs.Answers.{Answers, ArePivots, IsDeterminant}
+use Rattle.matrix.specs.Determinant.{IsDeterminant}
+use Rattle.examples.specs.Answers.{Answers, ArePivots}
 use Rattle.examples.specs.Example.{Name, named, Example, answers, pivots, determinant, refusal, Every, Gives}
 use Rattle.examples.specs.WExamples.{wExamples}
 use Rattle.examples.proofs.Opened.{decisions, arithmetic, buffers, first-kind, second-kind}

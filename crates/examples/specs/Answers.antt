@@ -1,16 +1,13 @@
 -- What the definitions give for the matrix in a: n rows and m columns of polynomials of d + 1 places over Z/p.
 use mathlib.Core.Path.{_≡_}
 use mathlib.Core.List.{List}
-use Prim.Native.Nat.{ℕ, _+_, _*_, _<_}
+use Prim.Native.Nat.{ℕ, _+_, _<_}
 use lib.ListN.{length, getD}
 use Rattle.algebra.specs.Prime.{Prime}
 use Rattle.algebra.proofs.PrimeField.{zp-field}
-use Rattle.algebra.proofs.Series.{series}
-use Rattle.poly.specs.Reading.{Holds}
 use Rattle.buffers.specs.Held.{matrixOf}
 use Rattle.buffers.proofs.Place.{by-rows}
 use Rattle.reduction.specs.Pivot.{values, index}
-use Rattle.determinant.specs.Determinant.{det}
 use Rattle.refusals.specs.Refused.{reductionSizes}
 use Rattle.matrix.specs.Answer.{lengths, Promised}
 use Rattle.matrix.specs.Popov.{PopovPromised}
@@ -41,8 +38,3 @@ pub record ArePivots (p n m d : ℕ) (a l : List ℕ) : Type 0 where
   pub size : length l ≡ n
   pub index-is : (P : Prime p) (some : 0 < p) (i : ℕ) → i < n
       → getD l i 0 ≡ index m (values (zp-field p P) m (d + 1) (matrixOf (by-rows n m (d + 1)) p some a) i)
-
--- l holds the determinant, in "n·d+1" places; here m is n
-pub record IsDeterminant (p n d : ℕ) (a l : List ℕ) : Type 0 where
-  pub size : length l ≡ n * d + 1
-  pub holds : (P : Prime p) (some : 0 < p) → Holds p l (det (series (zp-field p P .ring)) n (matrixOf (by-rows n n (d + 1)) p some a))
