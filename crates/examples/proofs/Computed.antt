@@ -33,8 +33,8 @@ use Rattle.buffers.specs.Held.{matrixOf}
 use Rattle.buffers.proofs.Held.{held-matrixOf, held-bounded}
 use Rattle.buffers.proofs.Place.{by-rows}
 use Rattle.stepping.specs.Holding.{Holding}
-use Rattle.matrix.specs.Listed.{maskOf}
-use Rattle.matrix.specs.Reduced.{ReducedBy}
+use Rattle.running.specs.Listed.{maskOf}
+use Rattle.running.specs.Reduced.{ReducedBy}
 use Rattle.matrix.specs.Popov.{PopovBy}
 use Rattle.matrix.specs.Determinant.{IsDeterminant}
 use Rattle.examples.specs.Answers.{Answers, ArePivots}

@@ -1,6 +1,3 @@
-pub mod Loop
-pub mod Running
-pub mod NonzeroRows
 pub mod Service
 pub mod Facts
 pub mod Unique

@@ -18,8 +18,9 @@ use Rattle.refusals.specs.Answering.{Told}
 use Rattle.refusals.specs.Refused.{Numbers, reductionSizes, refusalTable}
 use Rattle.refusals.proofs.Verdicts.{row-few, cell-few, matrix-few}
 use Rattle.refusals.proofs.Answering.{refusal-number, answer-done, InOrder, in-order}
-use Rattle.matrix.specs.Listed.{IsListed}
-use Rattle.matrix.specs.Running.{InputAsked, StartAsked, RunAsked, Ran}
+use Rattle.running.specs.Listed.{IsListed}
+use Rattle.running.specs.Running.{RunAsked, Ran}
+use Rattle.matrix.specs.Asked.{InputAsked, StartAsked}
 use Rattle.matrix.specs.Answer.{lengths, IsDone, Answered, AnsweredDone}
 use Rattle.matrix.specs.declared.reducing.Answer.{Answer}
 use Rattle.matrix.specs.declared.reducing.Answer.the-variants.{NotDone, Done}

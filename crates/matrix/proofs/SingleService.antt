@@ -8,7 +8,7 @@ use Rattle.residues.specs.Modulus.{Ready}
 use Rattle.refusals.specs.Answering.{Told}
 use Rattle.refusals.specs.Refused.{stepSizes, refusalTable}
 use Rattle.refusals.proofs.Answering.{answer-done, InOrder, in-order}
-use Rattle.matrix.specs.Running.{InputAsked}
+use Rattle.matrix.specs.Asked.{InputAsked}
 use Rattle.matrix.specs.Single.{Stepped, StepAnswered}
 use Rattle.matrix.specs.declared.single.StepAnswer.the-variants.{Done}
 use Rattle.matrix.proofs.Service.{input-asked}

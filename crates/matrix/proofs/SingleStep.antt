@@ -26,7 +26,7 @@ use Rattle.pivots.specs.Pivot.{valuesOf, Pivots}
 use Rattle.pivots.specs.declared.pair.Next.the-variants.{Rows}
 use Rattle.stepping.specs.Move.{Factor}
 use Rattle.stepping.specs.Asked.{PlanAsked}
-use Rattle.matrix.specs.Running.{InputAsked}
+use Rattle.matrix.specs.Asked.{InputAsked}
 use Rattle.matrix.specs.Single.{Stepped}
 use Rattle.stepping.proofs.Value.{value-held}
 use Rattle.stepping.proofs.Moving.{step-held}

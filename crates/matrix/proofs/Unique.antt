@@ -21,8 +21,8 @@ use Rattle.refusals.specs.Refused.{reductionSizes, stepSizes}
 use Rattle.refusals.proofs.Answering.{refusal-number, in-order}
 use Rattle.refusals.proofs.Unique.{refusal-same, told-unique, answering-unique}
 use Rattle.stepping.specs.Holding.{Holding}
-use Rattle.matrix.specs.Listed.{maskOf}
-use Rattle.matrix.specs.Reduced.{Reduced}
+use Rattle.running.specs.Listed.{maskOf}
+use Rattle.running.specs.Reduced.{Reduced}
 use Rattle.matrix.specs.Answer.{lengths, IsDone, Promised, Answered, numberOf, placeOf, rankOf, countOf, rowsOf}
 use Rattle.matrix.specs.Single.{Stepped, StepPromised, StepAnswered}
 use Rattle.matrix.specs.Single as Single

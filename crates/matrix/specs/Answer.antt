@@ -8,8 +8,8 @@ use Rattle.refusals.specs.Number as Refusal
 use Rattle.refusals.specs.Answering.{Answering}
 use Rattle.refusals.specs.Refused.{reductionSizes, refusalTable}
 use Rattle.pivots.specs.Pivot.{valueOf, rowOf}
-use Rattle.matrix.specs.Listed.{IsListed}
-use Rattle.matrix.specs.Reduced.{Reduced}
+use Rattle.running.specs.Listed.{IsListed}
+use Rattle.running.specs.Reduced.{Reduced}
 use Rattle.matrix.specs.declared.reducing.Answer.{Answer}
 use Rattle.matrix.specs.declared.reducing.Answer.the-variants.{NotDone, Done}
 

@@ -12,7 +12,7 @@ use Rattle.reduction.specs.Rank as Rank
 use Rattle.reduction.specs.ReductionFacts.{ReductionFacts}
 use Rattle.reduction.specs.Step.{Carried}
 use Rattle.stepping.specs.Holding.{Holding}
-use Rattle.matrix.specs.Listed.{maskOf}
+use Rattle.running.specs.Listed.{maskOf}
 
 -- A is the matrix in a, over Z/p; r, u and v are the buffers at the end, and rank, count and rows the answer
 pub record DoneFacts (p : ℕ) (P : Prime p) (some : 0 < p) (n m w : ℕ) (a r u v : List ℕ) (rank count rows : ℕ) : Type 0 where

@@ -1,6 +1,4 @@
-pub mod Reduced
-pub mod Running
-pub mod Listed
+pub mod Asked
 pub mod Answer
 pub mod Facts
 pub mod Single

@@ -1,6 +1,5 @@
 // Reduction of matrices of polynomials, on buffers that the caller lends.
 pub mod determining;
-mod listing;
 pub mod popov_form;
 pub mod reducing;
 mod scratch;

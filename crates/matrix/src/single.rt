@@ -1,5 +1,5 @@
 // The single step: input and result only.
-ghost use Rattle.matrix.specs.Running.{InputAsked};
+ghost use Rattle.matrix.specs.Asked.{InputAsked};
 ghost use Rattle.matrix.specs.Single.{Stepped, StepAnswered};
 use crate::scratch;
 use pivots::Next;

@@ -15,7 +15,7 @@ use Rattle.refusals.specs.Refused.{Numbers, InSquare, refusalTable}
 use Rattle.refusals.proofs.Answering.{refusal-number}
 use Rattle.refusals.proofs.Verdicts.{all-right, matrix-few}
 use Rattle.refusals.proofs.Unique.{told-unique}
-use Rattle.matrix.specs.Reduced.{ReducedBy}
+use Rattle.running.specs.Reduced.{ReducedBy}
 use Rattle.matrix.specs.Answer.{Answered}
 use Rattle.matrix.specs.declared.reducing.Answer.{Answer}
 use Rattle.matrix.specs.declared.reducing.Answer.the-variants.{NotDone, Done}

@@ -3,11 +3,11 @@ use native.Mathlib.Omega.{arith}
 use denote.Ref.{now}
 use Rattle.lists.specs.Total.{total}
 use Rattle.pivots.proofs.Next.{next-is}
-use Rattle.matrix.specs.Running.{RunAsked}
+use Rattle.running.specs.Running.{RunAsked}
 use Rattle.pivots.specs.Pivot.{valuesOf}
-use Rattle.matrix.proofs.Running.{Running, running-start, next-asked, running-stop, count-fits, Turn, rows-fit, reach-fits, advance-asked, after-fits, lower, falls, running-on}
-use Rattle.matrix.proofs.reducing.run.Statement.{statement}
-use Rattle.matrix.proofs.reducing.run.Tie as tie
+use Rattle.running.proofs.Running.{Running, running-start, next-asked, running-stop, count-fits, Turn, rows-fit, reach-fits, advance-asked, after-fits, lower, falls, running-on}
+use Rattle.running.proofs.run.Statement.{statement}
+use Rattle.running.proofs.run.Tie as tie
 
 abbrev Inv-loop : tie.InvT-loop
 Inv-loop r₀ u₀ v₀ spare₀ index₀ degree₀ n m w md least count₀ spent₀ r u v spare index degree count spent =

@@ -18,14 +18,14 @@ use Rattle.pivots.specs.Pair.{NextAsked, IsNextOf}
 use Rattle.pivots.specs.Pivot.{Pivots, leastDegree}
 use Rattle.pivots.specs.declared.pair.Next.the-variants.{Nothing, Rows}
 use Rattle.stepping.specs.Asked.{AdvanceAsked, Advanced}
-use Rattle.matrix.specs.Running.{RunAsked, Ran}
+use Rattle.running.specs.Running.{RunAsked, Ran}
 use Rattle.stepping.proofs.Following.{renew-asked}
 use Rattle.pivots.proofs.LeastDegree.{least-below}
 use Rattle.pivots.proofs.Next.{pivots-asked}
 use Rattle.pivots.specs.Pivot.{valuesOf, degreesOf}
 use Rattle.stepping.proofs.Value.{values-total}
 use Rattle.stepping.proofs.Short.{holding-matrices}
-use Rattle.matrix.proofs.Loop.{Input, LoopAt, loop-start, loop-last, loop-turn, loop-falls, row-room, row-short, column-short}
+use Rattle.running.proofs.Loop.{Input, LoopAt, loop-start, loop-last, loop-turn, loop-falls, row-room, row-short, column-short}
 use Rattle.stepping.proofs.RowsOf.{height-under, list-short, plan-asked, size-after, pivots-after}
 
 -- the buffers keep their lengths

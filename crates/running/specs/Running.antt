@@ -9,28 +9,7 @@ use Rattle.poly.specs.Polynomial.{Coefficients}
 use Rattle.buffers.specs.Diagonal.{Diagonal}
 use Rattle.reduction.specs.Pivot.{index}
 use Rattle.pivots.specs.Pivot.{valueOf, rowOf, Pivots}
-use Rattle.matrix.specs.Reduced.{Reduced}
-
--- a matrix in r that has passed the checks
-pub record InputAsked (p reciprocal n m w : ℕ) (r : List ℕ) : Type 0 where
-  pub ready : Ready p reciprocal
-  pub prime : Prime p
-  pub rows : 0 < n
-  pub rows-most : n ≤ 8
-  pub columns : 0 < m
-  pub columns-most : m ≤ 8
-  pub places : 0 < w
-  pub row-few : m * w ≤ 512
-  pub cell-few : n * w ≤ 512
-  pub small : n * (m * w) ≤ 4096
-  pub size : length r ≡ n * (m * w)
-  pub residues : Coefficients p r
-
--- and U and V the identity
-pub record StartAsked (p reciprocal n m w : ℕ) (r u v : List ℕ) : Type 0 where
-  pub input : InputAsked p reciprocal n m w r
-  pub u-one : Diagonal n (n * w) u
-  pub v-one : Diagonal n w v
+use Rattle.running.specs.Reduced.{Reduced}
 
 -- a matrix in r with its pivots, U and V the identity, and room for a row and for a cell of U
 pub record RunAsked (p reciprocal n m w : ℕ) (r u v spare indices degrees : List ℕ) : Type 0 where

@@ -2,7 +2,7 @@
 ghost use mathlib.Core.Path.{_≡_};
 ghost use lib.ListN.{getD};
 ghost use Rattle.reduction.specs.Rank.{sign};
-ghost use Rattle.matrix.specs.Listed.{ListAsked, IsListed};
+ghost use Rattle.running.specs.Listed.{ListAsked, IsListed};
 
 // How many rows are not zero, and which: bit i - 1 stands for row i.
 pub struct Listed {

@@ -2,9 +2,9 @@ use borrow.Author.Needs.{needs}
 use native.Mathlib.Omega.{arith}
 use Prim.Native.Nat.{_-_, _≤_}
 use lib.ListN.{getD}
-use Rattle.matrix.proofs.NonzeroRows.{Listing, listing-start, bit-few, sign-few, entry-few, listing-on, listing-all}
-use Rattle.matrix.proofs.listing.list.Statement.{statement}
-use Rattle.matrix.proofs.listing.list.Tie as tie
+use Rattle.running.proofs.NonzeroRows.{Listing, listing-start, bit-few, sign-few, entry-few, listing-on, listing-all}
+use Rattle.running.proofs.listing.list.Statement.{statement}
+use Rattle.running.proofs.listing.list.Tie as tie
 
 abbrev Inv-loop : tie.InvT-loop
 Inv-loop index n rank₀ rows₀ bit₀ i₀ rank rows bit i = (i ≤ n) × Listing (λ j. getD index j 0) rank rows bit i

@@ -1,7 +1,7 @@
 use borrow.Author.Needs.{needs}
-use Rattle.matrix.proofs.NonzeroRows.{sign-some}
-use Rattle.matrix.proofs.listing.sign.Statement.{statement}
-use Rattle.matrix.proofs.listing.sign.Tie as tie
+use Rattle.running.proofs.NonzeroRows.{sign-some}
+use Rattle.running.proofs.listing.sign.Statement.{statement}
+use Rattle.running.proofs.listing.sign.Tie as tie
 
 returns : tie.Need-returns
 returns c = search needs

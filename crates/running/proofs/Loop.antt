@@ -35,7 +35,7 @@ use Rattle.reduction.proofs.Degrees.{D, spent-since, Narrow, narrow-start}
 use Rattle.pivots.specs.Pivot.{valuesOf, degreesOf, Pivots}
 use Rattle.stepping.specs.Holding.{Holding}
 use Rattle.stepping.specs.Move.{FirstMove}
-use Rattle.matrix.specs.Reduced.{ReducedBy}
+use Rattle.running.specs.Reduced.{ReducedBy}
 use Rattle.stepping.proofs.Value.{value-held}
 use Rattle.stepping.proofs.Moving.{height-is, step-falls, move-narrow, move-holding}
 use Rattle.stepping.proofs.Short.{u-short, v-short, spent-fits}

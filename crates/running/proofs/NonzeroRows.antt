@@ -9,7 +9,7 @@ use lib.Pow.{pow-lt}
 use Rattle.lists.specs.Total.{total}
 use Rattle.reduction.specs.Rank.{sign}
 use Rattle.reduction.proofs.Sign.{sign-most}
-use Rattle.matrix.specs.Listed.{IsListed}
+use Rattle.running.specs.Listed.{IsListed}
 
 pub sign-some : {x : ℕ} → x ≢ 0 → 1 ≡ sign x
 sign-some {x = zero} h = absurd (h refl)

@@ -1,0 +1,3 @@
+pub mod Loop
+pub mod Running
+pub mod NonzeroRows
