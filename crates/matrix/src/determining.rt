@@ -1,6 +1,6 @@
 // The determinant of a square matrix.
 ghost use Rattle.matrix.specs.Determinant.{WorkAsked, IsDeterminant, DeterminantAnswered};
-use crate::scratch;
+use crate::wide;
 use refusals::Check;
 use refusals::Refusal;
 use residues::Modulus;
@@ -18,9 +18,9 @@ fn work(a: &[u16], r: &mut [u16], n: usize, d: usize, md: Modulus)
 {
     let w = d + 1;
     let wide = n * d + 1;
-    let mut columns = scratch::columns();
-    let mut next = scratch::columns();
-    let mut column = scratch::cells();
+    let mut columns = wide::columns();
+    let mut next = wide::columns();
+    let mut column = wide::cells();
     let mut spare = scratch::room();
     let mut index = scratch::eight();
     let mut degree = scratch::eight();

@@ -2,5 +2,5 @@
 pub mod determining;
 pub mod popov_form;
 pub mod reducing;
-mod scratch;
 pub mod single;
+mod wide;

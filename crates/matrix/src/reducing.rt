@@ -1,7 +1,6 @@
 // The whole reduction.
 ghost use Rattle.matrix.specs.Asked.{StartAsked};
 ghost use Rattle.matrix.specs.Answer.{Answered, AnsweredDone};
-use crate::scratch;
 use pivots::pivot;
 use poly::polynomial;
 use refusals::Check;

@@ -1,7 +1,6 @@
 // The single step: input and result only.
 ghost use Rattle.matrix.specs.Asked.{InputAsked};
 ghost use Rattle.matrix.specs.Single.{Stepped, StepAnswered};
-use crate::scratch;
 use pivots::Next;
 use pivots::pivot;
 use poly::polynomial;

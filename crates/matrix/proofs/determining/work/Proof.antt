@@ -65,7 +65,7 @@ run-requires c κs =
     let laid = c .before .before .before .before .before .before .before .before .before .before .before in
     let made = laid .before .before .before .before in
     stages-asked (made .before .before .before .before .before .before .before .before .pre) (laid .lay .ensures) (laid .lay .kept .1 .0 ∙ made .before .before .before .before .before .columns .ensures) (laid .lay .kept .1 .1 .0 ∙ made .before .before .before .cells .ensures)
-    (made .before .before .before .before .columns2 .ensures) (made .before .before .room .ensures) (made .before .eight .ensures) (made .eight2 .ensures)
+    (made .before .before .before .before .columns2 .ensures) (made .before .before .room .ensures .0) (made .before .eight .ensures .0) (made .eight2 .ensures .0)
 
 same-length : tie.Need-same-length
 same-length c = search needs

@@ -36,7 +36,7 @@ run-requires : tie.Need-run-requires
 run-requires c κs =
     let found = c .before .before .before .before .before .before .before .before in
     let second = found .before .before .before .before in
-    run-asked (second .before .before .before .before .before .before .pre) (second .before .before .room .ensures) (found .all .kept .1 .0 ∙ second .before .eight .ensures) (found .all .kept .1 .1 .0 ∙ second .eight2 .ensures) (found .all .ensures)
+    run-asked (second .before .before .before .before .before .before .pre) (second .before .before .room .ensures .0) (found .all .kept .1 .0 ∙ second .before .eight .ensures .0) (found .all .kept .1 .1 .0 ∙ second .eight2 .ensures .0) (found .all .ensures)
 
 slice-aggregate-list : tie.Need-slice-aggregate-list
 slice-aggregate-list c = search needs
@@ -46,7 +46,7 @@ list-requires c κs =
     let ran = c .before .before .before .before .before .before .before .before .before .before in
     let found = ran .before .before .before .before .before .before .before .before .before in
     let asked = found .before .before .before .before .before .before .before .before .before .before .pre .input in
-    record { few = asked .rows-most; room = omega (arith, asked .rows-most, ran .run .kept .1 .1 .1 .1 .0, found .all .kept .1 .0, found .before .before .before .before .before .eight .ensures) }
+    record { few = asked .rows-most; room = omega (arith, asked .rows-most, ran .run .kept .1 .1 .1 .1 .0, found .all .kept .1 .0, found .before .before .before .before .before .eight .ensures .0) }
 
 same-length : tie.Need-same-length
 same-length c = search needs

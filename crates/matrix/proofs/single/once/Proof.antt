@@ -1,4 +1,4 @@
-use mathlib.Core.Path.{_∙_}
+use mathlib.Core.Path.{sym, _∙_}
 use native.Mathlib.Omega.{arith}
 use Rattle.pivots.proofs.Next.{next-is}
 use Rattle.matrix.proofs.SingleStep.{stepped-none, choice-asked, k-room, planning-asked, subtraction-asked, stepped-pair}
@@ -33,7 +33,7 @@ slice-aggregate-next-rows-2 c = search needs
 next-rows-requires : tie.Need-next-rows-requires
 next-rows-requires c κs =
     let found = c .before .before .before .before in
-    choice-asked (found .before .before .before .before .before .before .before .before .pre) (found .all .ensures) (found .all .kept .1 .0 ∙ found .before .before .before .before .before .eight .ensures) (found .all .kept .1 .1 .0 ∙ found .before .before .before .before .eight2 .ensures)
+    choice-asked (found .before .before .before .before .before .before .before .before .pre) (found .all .ensures) (found .all .kept .1 .0 ∙ found .before .before .before .before .before .eight .ensures .0) (found .all .kept .1 .1 .0 ∙ found .before .before .before .before .eight2 .ensures .0)
 
 enum-known-l : tie.Need-enum-known-l
 enum-known-l c = search needs
@@ -60,10 +60,12 @@ plan-requires c κs =
     let told = c .before .before .before in
     let found = told .before .before .before .before .before .before .before .before in
     let next = next-is _ _ _ _ _ (found .all .ensures) _ _ (told .before .before .before .next-rows .ensures) (told .before .l .given .1) in
-    planning-asked (found .before .before .before .before .before .before .before .before .pre) next (found .all .ensures) (found .all .kept .1 .0 ∙ found .before .before .before .before .before .eight .ensures) (found .all .kept .1 .1 .0 ∙ found .before .before .before .before .eight2 .ensures)
+    planning-asked (found .before .before .before .before .before .before .before .before .pre) next (found .all .ensures) (found .all .kept .1 .0 ∙ found .before .before .before .before .before .eight .ensures .0) (found .all .kept .1 .1 .0 ∙ found .before .before .before .before .eight2 .ensures .0)
 
 slice-aggregate-add-row : tie.Need-slice-aggregate-add-row
-slice-aggregate-add-row c = search needs
+slice-aggregate-add-row c =
+    let told = c .before .before .before .before .before in
+    sym (told .before .before .before .before .before .before .before .before .before .before .before .before .before .before .before .room .ensures .0)
 
 mul-add-row : tie.Need-mul-add-row
 mul-add-row c =
@@ -84,7 +86,7 @@ add-row-requires c κs =
     let told = c .before .before .before .before .before .before in
     let found = told .before .before .before .before .before .before .before .before in
     let next = next-is _ _ _ _ _ (found .all .ensures) _ _ (told .before .before .before .next-rows .ensures) (told .before .l .given .1) in
-    subtraction-asked (found .before .before .before .before .before .before .before .before .pre) next (found .all .ensures) (c .before .before .plan .ensures) (found .all .kept .1 .0 ∙ found .before .before .before .before .before .eight .ensures) (found .all .kept .1 .1 .0 ∙ found .before .before .before .before .eight2 .ensures) (found .before .before .before .before .before .before .room .ensures)
+    subtraction-asked (found .before .before .before .before .before .before .before .before .pre) next (found .all .ensures) (c .before .before .plan .ensures) (found .all .kept .1 .0 ∙ found .before .before .before .before .before .eight .ensures .0) (found .all .kept .1 .1 .0 ∙ found .before .before .before .before .eight2 .ensures .0) (found .before .before .before .before .before .before .room .ensures .0)
 
 same-length-2 : tie.Need-same-length-2
 same-length-2 c = search needs
