@@ -21,9 +21,9 @@ use Rattle.reduction.specs.Step.{reduce-row}
 use Rattle.reduction.specs.Run.{step}
 use Rattle.reduction.proofs.Pair.{pair-reducing, no-pair-same, pair-same}
 use Rattle.reduction.proofs.SingleStep.{step-pair, step-none}
-use Rattle.pivots.specs.Pair.{NextAsked, IsNextOf}
+use Rattle.choosing.specs.Pair.{NextAsked, IsNextOf}
 use Rattle.pivots.specs.Pivot.{valuesOf, Pivots}
-use Rattle.pivots.specs.declared.pair.Next.the-variants.{Rows}
+use Rattle.choosing.specs.declared.pair.Next.the-variants.{Rows}
 use Rattle.stepping.specs.Move.{Factor}
 use Rattle.stepping.specs.Asked.{PlanAsked}
 use Rattle.matrix.specs.Asked.{InputAsked}
@@ -31,7 +31,7 @@ use Rattle.matrix.specs.Single.{Stepped}
 use Rattle.stepping.proofs.Value.{value-held}
 use Rattle.stepping.proofs.Moving.{step-held}
 use Rattle.stepping.proofs.Following.{row-asked}
-use Rattle.pivots.proofs.Next.{pivots-asked}
+use Rattle.choosing.proofs.Next.{pivots-asked}
 use Rattle.stepping.proofs.RowsOf.{list-short, plan-asked}
 
 module _ {p reciprocal n m w : ℕ} {r : List ℕ} (asked : InputAsked p reciprocal n m w r) where

@@ -1,7 +1,7 @@
 // The single step: input and result only.
 ghost use Rattle.matrix.specs.Asked.{InputAsked};
 ghost use Rattle.matrix.specs.Single.{Stepped, StepAnswered};
-use pivots::Next;
+use choosing::Next;
 use pivots::pivot;
 use poly::polynomial;
 use refusals::Check;
@@ -22,7 +22,7 @@ fn once(r: &mut [u16], n: usize, m: usize, w: usize, md: Modulus) -> u64
     let mut index = scratch::eight();
     let mut degree = scratch::eight();
     pivot::all(r, &mut index, &mut degree, n, m, w);
-    let Next::Rows { l, k } = pivots::next_rows(&index, &degree, n) else {
+    let Next::Rows { l, k } = choosing::next_rows(&index, &degree, n) else {
         return 0;
     };
     let x = stepping::plan(r, &index, &degree, l, k, m, w, md);

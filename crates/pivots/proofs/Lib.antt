@@ -1,5 +1,2 @@
 pub mod Search
 pub mod LeastDegree
-pub mod Bits
-pub mod Choice
-pub mod Next

@@ -1,3 +1,1 @@
 pub mod Pivot
-pub mod Columns
-pub mod Pair

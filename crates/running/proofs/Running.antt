@@ -14,14 +14,14 @@ use Rattle.lists.proofs.Total.{total-same, total-change}
 use Rattle.reduction.specs.Pair.{Reducing}
 use Rattle.reduction.proofs.Index.{clash-second}
 use Rattle.reduction.proofs.Pair.{pair-reducing}
-use Rattle.pivots.specs.Pair.{NextAsked, IsNextOf}
+use Rattle.choosing.specs.Pair.{NextAsked, IsNextOf}
 use Rattle.pivots.specs.Pivot.{Pivots, leastDegree}
-use Rattle.pivots.specs.declared.pair.Next.the-variants.{Nothing, Rows}
+use Rattle.choosing.specs.declared.pair.Next.the-variants.{Nothing, Rows}
 use Rattle.stepping.specs.Asked.{AdvanceAsked, Advanced}
 use Rattle.running.specs.Running.{RunAsked, Ran}
 use Rattle.stepping.proofs.Following.{renew-asked}
 use Rattle.pivots.proofs.LeastDegree.{least-below}
-use Rattle.pivots.proofs.Next.{pivots-asked}
+use Rattle.choosing.proofs.Next.{pivots-asked}
 use Rattle.pivots.specs.Pivot.{valuesOf, degreesOf}
 use Rattle.stepping.proofs.Value.{values-total}
 use Rattle.stepping.proofs.Short.{holding-matrices}

@@ -1,6 +1,6 @@
 // The whole reduction on buffers, "this step repeated until none applies", and the rows that it leaves other than zero.
 ghost use Rattle.running.specs.Running.{RunAsked, Ran};
-use pivots::Next;
+use choosing::Next;
 use pivots::PivotDegree;
 use pivots::pivot;
 use residues::Modulus;
@@ -32,7 +32,7 @@ pub fn run(
     let mut count: u64 = 0;
     let mut spent: usize = 0;
     loop {
-        let Next::Rows { l, k } = pivots::next_rows(index, degree, n) else {
+        let Next::Rows { l, k } = choosing::next_rows(index, degree, n) else {
             return count;
         };
         let before = PivotDegree(degree[l]).or_zero();

@@ -25,10 +25,10 @@ use Rattle.reduction.specs.Pivot.{value, values, height}
 use Rattle.reduction.specs.Pair.{Reducing}
 use Rattle.reduction.specs.Step.{factor, subtract, reduce-row}
 use Rattle.reduction.proofs.Pair.{pair-reducing, pair-same}
-use Rattle.pivots.specs.Pair.{NextAsked, IsNextOf}
+use Rattle.choosing.specs.Pair.{NextAsked, IsNextOf}
 use Rattle.pivots.specs.Pivot.{valuesOf, Pivots}
-use Rattle.pivots.specs.declared.pair.Next.the-variants.{Nothing, Rows}
-use Rattle.pivots.proofs.Next.{pivots-asked}
+use Rattle.choosing.specs.declared.pair.Next.the-variants.{Nothing, Rows}
+use Rattle.choosing.proofs.Next.{pivots-asked}
 use Rattle.stepping.proofs.Value.{value-held}
 use Rattle.stepping.proofs.Moving.{height-is, step-followed, step-held, step-falls}
 use Rattle.stepping.proofs.RowsOf.{list-short, plan-asked, pivots-after}

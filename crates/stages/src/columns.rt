@@ -1,6 +1,6 @@
 // The steps of one stage.
 ghost use Rattle.stages.specs.Columns.{ReduceAsked, ColumnsReduced};
-use pivots::Next;
+use choosing::Next;
 use residues::Modulus;
 
 // Steps until none applies to the first m columns of m + 1 rows. The parted column follows: what the pivot degrees have lost of
@@ -22,7 +22,7 @@ pub fn reduce_columns(
 {
     let rows = m + 1;
     loop {
-        let Next::Rows { l, k } = pivots::next_rows(index, degree, rows) else {
+        let Next::Rows { l, k } = choosing::next_rows(index, degree, rows) else {
             return;
         };
         let top = degree[k] + parting::slack(degree, rows, budget);

@@ -2,7 +2,7 @@ use borrow.Author.Needs.{needs}
 use native.Mathlib.Omega.{arith}
 use denote.Ref.{now}
 use Rattle.lists.specs.Total.{total}
-use Rattle.pivots.proofs.Next.{next-is}
+use Rattle.choosing.proofs.Next.{next-is}
 use Rattle.running.specs.Running.{RunAsked}
 use Rattle.pivots.specs.Pivot.{valuesOf}
 use Rattle.running.proofs.Running.{Running, running-start, next-asked, running-stop, count-fits, Turn, rows-fit, reach-fits, advance-asked, after-fits, lower, falls, running-on}

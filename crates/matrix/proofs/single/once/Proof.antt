@@ -1,6 +1,6 @@
 use mathlib.Core.Path.{sym, _∙_}
 use native.Mathlib.Omega.{arith}
-use Rattle.pivots.proofs.Next.{next-is}
+use Rattle.choosing.proofs.Next.{next-is}
 use Rattle.matrix.proofs.SingleStep.{stepped-none, choice-asked, k-room, planning-asked, subtraction-asked, stepped-pair}
 use borrow.Author.Needs.{needs}
 use Rattle.matrix.proofs.single.once.Statement.{statement}

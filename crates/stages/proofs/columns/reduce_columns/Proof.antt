@@ -3,10 +3,10 @@ use native.Mathlib.Numerals.{add-one}
 use native.Mathlib.Omega.{arith}
 use Prim.Native.Nat.{suc}
 use Rattle.lists.specs.Total.{total}
-use Rattle.pivots.specs.Pair.{IsNextOf}
+use Rattle.choosing.specs.Pair.{IsNextOf}
 use Rattle.pivots.specs.Pivot.{valuesOf}
-use Rattle.pivots.specs.declared.pair.Next.the-variants.{Rows}
-use Rattle.pivots.proofs.Next.{next-is}
+use Rattle.choosing.specs.declared.pair.Next.the-variants.{Rows}
+use Rattle.choosing.proofs.Next.{next-is}
 use Rattle.stages.proofs.Reducing.{Going, going-start, next-asked, going-stop, slack-asked, k-room, reach-fits, step-asked, falls, going-on}
 use Rattle.stages.proofs.columns.reduce_columns.Statement.{statement}
 use Rattle.stages.proofs.columns.reduce_columns.Tie as tie

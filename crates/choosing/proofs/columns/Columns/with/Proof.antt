@@ -1,8 +1,8 @@
 use native.Mathlib.Omega.{arith}
 use borrow.Author.Needs.{needs}
-use Rattle.pivots.proofs.Bits.{entered-none, entered-shifted}
-use Rattle.pivots.proofs.columns.Columns.with.Statement.{statement}
-use Rattle.pivots.proofs.columns.Columns.with.Tie as tie
+use Rattle.choosing.proofs.Bits.{entered-none, entered-shifted}
+use Rattle.choosing.proofs.columns.Columns.with.Statement.{statement}
+use Rattle.choosing.proofs.columns.Columns.with.Tie as tie
 
 returns : tie.Need-returns
 returns c = rw (c .if1 .taken) (entered-none _)

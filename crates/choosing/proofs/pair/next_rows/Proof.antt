@@ -1,7 +1,7 @@
 use borrow.Author.Needs.{needs}
 use Rattle.algebra.proofs.Flag.{denied}
-use Rattle.pivots.proofs.pair.next_rows.Statement.{statement}
-use Rattle.pivots.proofs.pair.next_rows.Tie as tie
+use Rattle.choosing.proofs.pair.next_rows.Statement.{statement}
+use Rattle.choosing.proofs.pair.next_rows.Tie as tie
 
 second-requires : tie.Need-second-requires
 second-requires c κs = search needs

@@ -11,7 +11,7 @@ use lib.Dec.{eqb}
 use lib.Bits.{bitAnd, bitOr, and-mask, or-shr, or-mod, or-zero-l, or-zero-r, or-self}
 use borrow.Author.Tests.{eqb-true, eq-eqb}
 use Rattle.algebra.proofs.Cases.{case-le}
-use Rattle.pivots.specs.Columns.{bitOf, In, Entered}
+use Rattle.choosing.specs.Columns.{bitOf, In, Entered}
 
 pub has-bit : (x : ℕ) → (eqb (bitAnd x 1) 1 ≡ true) ↔ (x % 2 ≡ 1)
 has-bit x = ((λ h. sym (and-mask x 1) ∙ eqb-true (bitAnd x 1) 1 h), λ h. eq-eqb (bitAnd x 1) 1 (and-mask x 1 ∙ h))

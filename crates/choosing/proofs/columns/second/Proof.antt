@@ -1,9 +1,9 @@
 use native.Mathlib.Omega.{arith}
 use Prim.Native.Nat.{_-_}
 use Rattle.algebra.proofs.Flag.{says-yes, says-no, denied}
-use Rattle.pivots.proofs.Choice.{Collecting, collecting-start, collecting-found, collecting-on, collecting-none}
-use Rattle.pivots.proofs.columns.second.Statement.{statement}
-use Rattle.pivots.proofs.columns.second.Tie as tie
+use Rattle.choosing.proofs.Choice.{Collecting, collecting-start, collecting-found, collecting-on, collecting-none}
+use Rattle.choosing.proofs.columns.second.Statement.{statement}
+use Rattle.choosing.proofs.columns.second.Tie as tie
 
 abbrev Inv-loop : tie.InvT-loop
 Inv-loop index n used₀ i₀ used i = Collecting index n (used .0) i

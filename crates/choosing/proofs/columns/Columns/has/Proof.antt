@@ -1,9 +1,9 @@
 use native.Mathlib.Omega.{arith}
 use borrow.Author.Needs.{needs}
 use Rattle.algebra.proofs.Flag.{says-no}
-use Rattle.pivots.proofs.Bits.{has-bit}
-use Rattle.pivots.proofs.columns.Columns.has.Statement.{statement}
-use Rattle.pivots.proofs.columns.Columns.has.Tie as tie
+use Rattle.choosing.proofs.Bits.{has-bit}
+use Rattle.choosing.proofs.columns.Columns.has.Statement.{statement}
+use Rattle.choosing.proofs.columns.Columns.has.Tie as tie
 
 returns : tie.Need-returns
 returns c = says-no (λ h. omega (arith, h .column, c .if1 .taken))

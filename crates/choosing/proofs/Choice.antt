@@ -6,9 +6,9 @@ use Prim.Native.Nat.{ℕ, _+_, _≤_, _<_}
 use native.Mathlib.Omega.{arith}
 use lib.ListN.{getD}
 use Rattle.algebra.proofs.Cases.{case-le}
-use Rattle.pivots.specs.Columns.{In, Entered, Meets, Second}
-use Rattle.pivots.specs.Pair.{Partner, Chosen}
-use Rattle.pivots.proofs.Bits.{empty}
+use Rattle.choosing.specs.Columns.{In, Entered, Meets, Second}
+use Rattle.choosing.specs.Pair.{Partner, Chosen}
+use Rattle.choosing.proofs.Bits.{empty}
 
 -- a row that is below i + 1 is below i, or i
 last-or : {A : ℕ → Type 0} (i : ℕ) → ((j : ℕ) → j < i → A j) → A i → (j : ℕ) → j < i + 1 → A j

@@ -2,7 +2,7 @@
 // another question, since the lowest row that has a later partner need not be the partner of the first repeated column.
 ghost use Prim.Native.Nat.{_<_, _≤_};
 ghost use lib.ListN.{length};
-ghost use Rattle.pivots.specs.Pair.{Partner, NextAsked, IsNext};
+ghost use Rattle.choosing.specs.Pair.{Partner, NextAsked, IsNext};
 use crate::columns;
 
 pub enum Next {

@@ -5,9 +5,9 @@ use mathlib.Core.List.{List}
 use Prim.Native.Nat.{ℕ, _≤_, _<_}
 use lib.ListN.{length, getD}
 use Rattle.reduction.specs.Pair as Reduction
-use Rattle.pivots.specs.Columns.{Indices, Meets}
-use Rattle.pivots.specs.declared.pair.Next.{Next}
-use Rattle.pivots.specs.declared.pair.Next.the-variants.{Nothing, Rows}
+use Rattle.choosing.specs.Columns.{Indices, Meets}
+use Rattle.choosing.specs.declared.pair.Next.{Next}
+use Rattle.choosing.specs.declared.pair.Next.the-variants.{Nothing, Rows}
 
 -- b is the lowest row after a that meets a, or n
 pub record Partner (indices : List ℕ) (n a b : ℕ) : Type 0 where

@@ -2,9 +2,9 @@ use native.Mathlib.Omega.{arith}
 use mathlib.Core.Path.{refl}
 use mathlib.Core.Logic.{inl, inr}
 use Prim.Native.Nat.{_-_}
-use Rattle.pivots.proofs.Choice.{Lower, lower-on, lower-found}
-use Rattle.pivots.proofs.pair.choose.Statement.{statement}
-use Rattle.pivots.proofs.pair.choose.Tie as tie
+use Rattle.choosing.proofs.Choice.{Lower, lower-on, lower-found}
+use Rattle.choosing.proofs.pair.choose.Statement.{statement}
+use Rattle.choosing.proofs.pair.choose.Tie as tie
 
 abbrev Inv-loop : tie.InvT-loop
 Inv-loop index degree n a₀ a = Lower index n a

@@ -9,11 +9,11 @@ use lib.ListN.{length, getD}
 use Rattle.reduction.specs.Pivot.{index, height, Clash}
 use Rattle.reduction.specs.Pair.{Pair, ordered-by, target}
 use Rattle.reduction.proofs.Index.{index-most}
-use Rattle.pivots.specs.Columns.{Meets}
+use Rattle.choosing.specs.Columns.{Meets}
 use Rattle.pivots.specs.Pivot.{Pivots}
-use Rattle.pivots.specs.Pair.{NextAsked, Chosen, IsNext, IsNextOf}
-use Rattle.pivots.specs.declared.pair.Next.{Next}
-use Rattle.pivots.specs.declared.pair.Next.the-variants.{Nothing, Rows}
+use Rattle.choosing.specs.Pair.{NextAsked, Chosen, IsNext, IsNextOf}
+use Rattle.choosing.specs.declared.pair.Next.{Next}
+use Rattle.choosing.specs.declared.pair.Next.the-variants.{Nothing, Rows}
 
 module _ (n m : ℕ) (v : ℕ → ℕ) (indices degrees : List ℕ) (p : Pivots n m v indices degrees) where
   index-at : (i : ℕ) → i < n → getD indices i 0 ≡ index m (v i)

@@ -1,9 +1,9 @@
 use native.Mathlib.Omega.{arith}
 use mathlib.Core.Path.{refl}
 use Prim.Native.Nat.{_-_}
-use Rattle.pivots.proofs.Choice.{Passing, passing-found, passing-on, passing-none, no-partner}
-use Rattle.pivots.proofs.pair.partner.Statement.{statement}
-use Rattle.pivots.proofs.pair.partner.Tie as tie
+use Rattle.choosing.proofs.Choice.{Passing, passing-found, passing-on, passing-none, no-partner}
+use Rattle.choosing.proofs.pair.partner.Statement.{statement}
+use Rattle.choosing.proofs.pair.partner.Tie as tie
 
 abbrev Inv-loop : tie.InvT-loop
 Inv-loop index a n x b₀ b = Passing index a n x b

@@ -4,8 +4,8 @@ ghost use mathlib.Core.Path.{_≡_};
 ghost use mathlib.Core.Bool.{true};
 ghost use mathlib.Core.Logic.{_↔_};
 ghost use Prim.Native.Nat.{_≤_};
-ghost use Rattle.pivots.specs.Columns.{In, Entered, Indices, Second};
-use crate::pivot::PivotIndex;
+ghost use Rattle.choosing.specs.Columns.{In, Entered, Indices, Second};
+use pivots::PivotIndex;
 
 // Bit c - 1 stands for column c; a zero row, of index 0, has none.
 pub struct Columns(pub u8);
