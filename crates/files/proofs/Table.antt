@@ -9,7 +9,7 @@ use lib.ListN.{take, drop}
 use Rattle.refusals.specs.Answering.{Row, Told}
 use Rattle.refusals.specs.Number.{numberOf, placeOf, checkNumber, checkPlace}
 use Rattle.refusals.specs.Refused.{Numbers, numberRows, coefficientRow, refusalTable}
-use Rattle.refusals.specs.Part.{OfNumbers, OfCoefficients}
+use Rattle.checking.specs.Part.{OfNumbers, OfCoefficients}
 use Rattle.refusals.specs.declared.Refusal.{Refusal}
 use Rattle.refusals.specs.declared.Check.{Check}
 use Rattle.refusals.specs.declared.Check.the-variants as Check

@@ -83,14 +83,14 @@ fn read_body(s: &[u8], at: usize, p: u32, n: usize, m: usize, d: usize, room: &m
     requires { ⌜ BodyAsked (now s) at (now room) ⌝ }
     ensures { λ r. ⌜ BodyRead p n m d (drop at (now (s .entry))) (now (room .exit)) r ⌝ }
 {
-    if let Check::Refused(x) = refusals::check_numbers(p, n, m, d) {
+    if let Check::Refused(x) = checking::check_numbers(p, n, m, d) {
         return Input::Refused(x);
     }
     let places = n * m * (d + 1);
     if let Body::Wrong(line) = read_matrix(s, at, n, m, d, &mut room[..places]) {
         return Input::Format(line);
     }
-    if let Check::Refused(x) = refusals::check_coefficients(&room[..places], p) {
+    if let Check::Refused(x) = checking::check_coefficients(&room[..places], p) {
         return Input::Refused(x);
     }
     Input::Matrix { p, n, m, d }

@@ -16,7 +16,7 @@ use Rattle.reduction.specs.Rank.{sign}
 use Rattle.pivots.specs.Pivot.{Pivots}
 use Rattle.refusals.specs.Answering.{Told}
 use Rattle.refusals.specs.Refused.{Numbers, reductionSizes, refusalTable}
-use Rattle.refusals.proofs.Verdicts.{row-few, cell-few, matrix-few}
+use Rattle.checking.proofs.Verdicts.{row-few, cell-few, matrix-few}
 use Rattle.refusals.proofs.Answering.{refusal-number, answer-done, InOrder, in-order}
 use Rattle.running.specs.Listed.{IsListed}
 use Rattle.running.specs.Running.{RunAsked, Ran}

@@ -51,7 +51,7 @@ pub fn determinant(
 ) -> DeterminantAnswer
     ensures { λ x. ⌜ DeterminantAnswered p n m d (now (a .entry)) (now (r .entry)) (now (r .exit)) x ⌝ }
 {
-    if let Check::Refused(x) = refusals::check_determinant(p, n, m, d, a, r.len()) {
+    if let Check::Refused(x) = checking::check_determinant(p, n, m, d, a, r.len()) {
         return DeterminantAnswer::NotDone(x);
     }
     work(a, r, n, d, Modulus::of(p));

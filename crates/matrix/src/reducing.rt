@@ -55,7 +55,7 @@ pub fn reduce(
 ) -> Answer
     ensures { λ x. ⌜ Answered p n m d (now (a .entry)) (now (r .entry)) (now (u .entry)) (now (v .entry)) (now (r .exit)) (now (u .exit)) (now (v .exit)) x ⌝ }
 {
-    if let Check::Refused(x) = refusals::check_reduction(p, n, m, d, a, r.len(), u.len(), v.len()) {
+    if let Check::Refused(x) = checking::check_reduction(p, n, m, d, a, r.len(), u.len(), v.len()) {
         return Answer::NotDone(x);
     }
     let w = d + 1;

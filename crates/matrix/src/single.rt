@@ -34,7 +34,7 @@ fn once(r: &mut [u16], n: usize, m: usize, w: usize, md: Modulus) -> u64
 pub fn step(p: u32, n: usize, m: usize, d: usize, a: &[u16], r: &mut [u16]) -> StepAnswer
     ensures { λ x. ⌜ StepAnswered p n m d (now (a .entry)) (now (r .entry)) (now (r .exit)) x ⌝ }
 {
-    if let Check::Refused(x) = refusals::check_step(p, n, m, d, a, r.len()) {
+    if let Check::Refused(x) = checking::check_step(p, n, m, d, a, r.len()) {
         return StepAnswer::NotDone(x);
     }
     polynomial::copy(a, r);

@@ -13,7 +13,7 @@ use Rattle.buffers.proofs.Place.{by-rows}
 use Rattle.refusals.specs.Answering.{Told}
 use Rattle.refusals.specs.Refused.{Numbers, InSquare, refusalTable}
 use Rattle.refusals.proofs.Answering.{refusal-number}
-use Rattle.refusals.proofs.Verdicts.{all-right, matrix-few}
+use Rattle.checking.proofs.Verdicts.{all-right, matrix-few}
 use Rattle.refusals.proofs.Unique.{told-unique}
 use Rattle.running.specs.Reduced.{ReducedBy}
 use Rattle.matrix.specs.Answer.{Answered}

@@ -1,4 +1,3 @@
 pub mod Number
 pub mod Answering
 pub mod Refused
-pub mod Part

@@ -8,8 +8,8 @@ use Prim.Native.Nat.{ℕ, _+_, _*_, _≤_}
 use lib.ListN.{length, take, drop, length-append}
 use lib.Seq.{length-take-le, take-at}
 use Rattle.refusals.specs.Refused.{Numbers}
-use Rattle.refusals.specs.Part.{OfNumbers, OfCoefficients}
-use Rattle.refusals.proofs.Verdicts.{matrix-few}
+use Rattle.checking.specs.Part.{OfNumbers, OfCoefficients}
+use Rattle.checking.proofs.Verdicts.{matrix-few}
 use Rattle.format.specs.Line.{read}
 use Rattle.format.specs.File.{cellLines}
 use Rattle.files.specs.Input.{MatrixRead}

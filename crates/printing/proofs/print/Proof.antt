@@ -6,7 +6,7 @@ use native.Mathlib.Omega.{arith}
 use lib.ListN.{length, take}
 use lib.Seq.{length-take-le}
 use Rattle.refusals.proofs.Answering.{refusal-number}
-use Rattle.refusals.proofs.Verdicts.{row-few, matrix-few}
+use Rattle.checking.proofs.Verdicts.{row-few, matrix-few}
 use Rattle.files.specs.Input.{FileRead}
 use Rattle.files.specs.declared.Input.{Input}
 use Rattle.files.specs.declared.Input.the-variants.{Format, Refused, Matrix}

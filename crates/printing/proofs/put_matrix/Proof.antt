@@ -6,7 +6,7 @@ use native.Mathlib.Omega.{arith}
 use lib.ListN.{length, take, drop}
 use lib.Seq.{length-take-le, length-front, take-at}
 use Rattle.refusals.specs.Refused.{Numbers}
-use Rattle.refusals.proofs.Verdicts.{row-few, matrix-few, cell-few, square-few, transform-few}
+use Rattle.checking.proofs.Verdicts.{row-few, matrix-few, cell-few, square-few, transform-few}
 use Rattle.printing.proofs.Answers.{ReducedTo, reduced-to}
 use Rattle.printing.proofs.put_matrix.Statement.{statement}
 use Rattle.printing.proofs.put_matrix.Tie as tie

@@ -4,7 +4,7 @@ use mathlib.Core.Bool.{false}
 use denote.Ref.{now}
 use Rattle.residues.proofs.Range.{in-range}
 use Rattle.refusals.specs.Refused.{Verdict}
-use Rattle.refusals.proofs.Verdicts.{cell-few}
+use Rattle.checking.proofs.Verdicts.{cell-few}
 use Rattle.refusals.proofs.Answering.{answer-refused}
 use Rattle.matrix.proofs.Service.{Passed, order, copy-fits, u-square, v-square, start-asked, answered}
 use borrow.Author.Needs.{needs}

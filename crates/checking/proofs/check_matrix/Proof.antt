@@ -2,11 +2,11 @@ use native.Mathlib.Omega.{arith}
 use borrow.Author.Needs.{needs}
 use mathlib.Core.Path.{subst}
 use mathlib.Core.Bool.{false}
 use Rattle.refusals.specs.Refused.{Numbers}
-use Rattle.refusals.specs.Part.{OfNumbers}
-use Rattle.refusals.proofs.Verdicts.{matrix-lengths, row-few, matrix-few}
-use Rattle.refusals.proofs.check_matrix.Statement.{statement}
-use Rattle.refusals.proofs.check_matrix.Tie as tie
+use Rattle.checking.specs.Part.{OfNumbers}
+use Rattle.checking.proofs.Verdicts.{matrix-lengths, row-few, matrix-few}
+use Rattle.checking.proofs.check_matrix.Statement.{statement}
+use Rattle.checking.proofs.check_matrix.Tie as tie
 
 -- past the first test the numbers are in range
 numbers : (c : tie.After-enum-told) → let args = c .before .before .before .args in Numbers (args .p) (args .n) (args .m) (args .d)

@@ -3,11 +3,11 @@ use borrow.Author.Needs.{needs}
 use mathlib.Core.Path.{refl, subst, ap₂}
 use mathlib.Core.Bool.{true}
 use mathlib.Core.List.{_∷_}
 use Rattle.refusals.specs.Refused.{Numbers}
-use Rattle.refusals.specs.Part.{OfNumbers, OfLengths}
-use Rattle.refusals.proofs.Verdicts.{not-square, row-few, matrix-few, determinant-few}
-use Rattle.refusals.proofs.check_determinant.Statement.{statement}
-use Rattle.refusals.proofs.check_determinant.Tie as tie
+use Rattle.checking.specs.Part.{OfNumbers, OfLengths}
+use Rattle.checking.proofs.Verdicts.{not-square, row-few, matrix-few, determinant-few}
+use Rattle.checking.proofs.check_determinant.Statement.{statement}
+use Rattle.checking.proofs.check_determinant.Tie as tie
 
 -- past the first test the numbers are in range
 numbers : (c : tie.After-enum-told) → let args = c .before .before .before .before .args in Numbers (args .p) (args .n) (args .m) (args .d)

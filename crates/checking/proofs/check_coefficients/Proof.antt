@@ -1,8 +1,8 @@
 use native.Mathlib.Omega.{arith}
 use borrow.Author.Needs.{needs}
-use Rattle.refusals.proofs.Verdicts.{high-coefficient, all-right}
-use Rattle.refusals.proofs.check_coefficients.Statement.{statement}
-use Rattle.refusals.proofs.check_coefficients.Tie as tie
+use Rattle.checking.proofs.Verdicts.{high-coefficient, all-right}
+use Rattle.checking.proofs.check_coefficients.Statement.{statement}
+use Rattle.checking.proofs.check_coefficients.Tie as tie
 
 first-high-requires : tie.Need-first-high-requires
 first-high-requires c κs = search needs

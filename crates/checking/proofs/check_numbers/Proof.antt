@@ -6,9 +6,9 @@ use borrow.Author.Tests.{not-true, not-false}
 use Rattle.algebra.proofs.Flag.{denied}
 use Prim.Native.Nat.{_≤_}
 use Rattle.residues.specs.Modulus.{Accepted}
 use Rattle.refusals.specs.Refused.{InShape}
-use Rattle.refusals.proofs.check_numbers.Statement.{statement}
-use Rattle.refusals.proofs.check_numbers.Tie as tie
+use Rattle.checking.proofs.check_numbers.Statement.{statement}
+use Rattle.checking.proofs.check_numbers.Tie as tie
 
 -- what is known past each test
 accepted : (c : tie.Else1) → Accepted (c .before .before .args .p)

@@ -1,7 +1,7 @@
 use borrow.Author.Needs.{needs}
-use Rattle.refusals.proofs.Verdicts.{wrong-here, wrong-later, wrong-length}
-use Rattle.refusals.proofs.check_lengths.Statement.{statement}
-use Rattle.refusals.proofs.check_lengths.Tie as tie
+use Rattle.checking.proofs.Verdicts.{wrong-here, wrong-later, wrong-length}
+use Rattle.checking.proofs.check_lengths.Statement.{statement}
+use Rattle.checking.proofs.check_lengths.Tie as tie
 
 returns : tie.Need-returns
 returns c = λ determinant p n m d given wanted l numbers square. wrong-length determinant _ _ _ _ _ _ l numbers square 1 (wrong-here _ _ _ _ (c .if1 .taken))

@@ -5,11 +5,11 @@ use mathlib.Core.Bool.{false}
 use mathlib.Core.List.{_∷_}
 use denote.Ref.{now}
 use lib.ListN.{length}
-use Rattle.refusals.specs.Part.{OfMatrix}
+use Rattle.checking.specs.Part.{OfMatrix}
 use Rattle.refusals.specs.declared.Check.the-variants.{Fine}
-use Rattle.refusals.proofs.Verdicts.{wrong-here, wrong-later, wrong-length, cell-few, square-few, transform-few}
-use Rattle.refusals.proofs.check_reduction.Statement.{statement}
-use Rattle.refusals.proofs.check_reduction.Tie as tie
+use Rattle.checking.proofs.Verdicts.{wrong-here, wrong-later, wrong-length, cell-few, square-few, transform-few}
+use Rattle.checking.proofs.check_reduction.Statement.{statement}
+use Rattle.checking.proofs.check_reduction.Tie as tie
 
 -- past the first test the numbers and two lengths are right
 known : (c : tie.After-enum-told) → let args = c .before .before .before .before .args in OfMatrix (args .p) (args .n) (args .m) (args .d) (length (now (args .a))) (args .r) Fine

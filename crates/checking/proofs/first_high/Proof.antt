@@ -3,8 +3,8 @@ use native.Mathlib.Omega.{arith}
 use Prim.Native.Nat.{ℕ, _-_, _≤_, _<_}
 use lib.ListN.{length, getD}
 use borrow.Author.Count.{below-more}
-use Rattle.refusals.proofs.first_high.Statement.{statement}
-use Rattle.refusals.proofs.first_high.Tie as tie
+use Rattle.checking.proofs.first_high.Statement.{statement}
+use Rattle.checking.proofs.first_high.Tie as tie
 
 abbrev Inv-loop : tie.InvT-loop
 Inv-loop a p i₀ i = (i ≤ length a) × ((j : ℕ) → j < i → getD a j 0 < p)

@@ -8,12 +8,12 @@ use native.Mathlib.Nat.{mul-le-mul, mul-add, mul-one}
 use native.Mathlib.Omega.{arith}
 use lib.ListN.{length, drop, getD}
 use Rattle.poly.specs.Polynomial.{Coefficients}
 use Rattle.refusals.specs.Answering.{Told}
 use Rattle.refusals.specs.Refused.{Numbers, InSquare, FirstWrong, FirstHigh, refusalTable, Verdict}
-use Rattle.refusals.specs.Part.{OfLengths, OfMatrix}
+use Rattle.checking.specs.Part.{OfLengths, OfMatrix}
 use Rattle.refusals.specs.declared.Refusal.the-variants.{Square, Length, Coefficient}
 use Rattle.refusals.specs.declared.Check.{Check}
 use Rattle.refusals.specs.declared.Check.the-variants.{Fine, Refused}
 
 -- the first buffer is wrong, or it is right and the first wrong one comes later
 pub wrong-here : (a x : ℕ) (given wanted : List ℕ) → a ≢ x → FirstWrong (a ∷ given) (x ∷ wanted) 1

@@ -1,8 +1,8 @@
 use native.Mathlib.Omega.{arith}
 use Rattle.algebra.proofs.Flag.{says-no}
 use borrow.Author.Tests.{leb-true, le-leb}
-use Rattle.refusals.proofs.one_to_eight.Statement.{statement}
-use Rattle.refusals.proofs.one_to_eight.Tie as tie
+use Rattle.checking.proofs.one_to_eight.Statement.{statement}
+use Rattle.checking.proofs.one_to_eight.Tie as tie
 
 returns : tie.Need-returns
 returns c = says-no (λ h. omega (arith, h .0, c .if1 .taken))
