@@ -7,6 +7,7 @@ use native.Mathlib.Decide.{decLe}
 use native.Mathlib.Numerals.{add-one}
 use native.Mathlib.Omega.{arith}
 use lib.ListN.{length, getD, set, length-set}
+use lib.Seq.{ext-getD}
 use Rattle.lists.specs.Change.{imap, upto}
 
 pub length-imap : (f : ℕ → ℕ → ℕ) (l : List ℕ) → length (imap f l) ≡ length l
@@ -31,6 +32,11 @@ getD-imap-every f l i h = elim (decLe (length l) i) [
   | yes past ↦ getD-past (imap f l) i (rw length-imap past) ∙ sym (h past) ∙ ap (f i) (sym (getD-past l i past))
   | no before ↦ getD-imap f l i (omega arith)
 ]
+
+-- a list whose every element is that of another
+pub imap-copy : (from to : List ℕ) → length from ≡ length to → imap (λ i x. getD from i 0) to ≡ from
+imap-copy from to same =
+    ext-getD 0 _ from (length-imap _ to ∙ sym same) (λ i h. getD-imap _ to i (rw length-imap at h))
 
 upto-all : (n : ℕ) (f : ℕ → ℕ → ℕ) (l : List ℕ) → length l ≤ n → upto n f l ≡ imap f l
 unfolding imap upto

@@ -2,7 +2,6 @@
 ghost use Rattle.matrix.specs.Asked.{StartAsked};
 ghost use Rattle.matrix.specs.Answer.{Answered, AnsweredDone};
 use pivots::pivot;
-use poly::polynomial;
 use refusals::Check;
 use refusals::Refusal;
 use residues::Modulus;
@@ -59,7 +58,7 @@ pub fn reduce(
         return Answer::NotDone(x);
     }
     let w = d + 1;
-    polynomial::copy(a, r);
+    arithmetic::copy(a, r);
     rows::write_identity(u, n, n * w);
     rows::write_identity(v, n, w);
     work(r, u, v, n, m, w, Modulus::of(p))

@@ -3,7 +3,6 @@ ghost use Rattle.matrix.specs.Asked.{InputAsked};
 ghost use Rattle.matrix.specs.Single.{Stepped, StepAnswered};
 use choosing::Next;
 use pivots::pivot;
-use poly::polynomial;
 use refusals::Check;
 use refusals::Refusal;
 use residues::Modulus;
@@ -37,6 +36,6 @@ pub fn step(p: u32, n: usize, m: usize, d: usize, a: &[u16], r: &mut [u16]) -> S
     if let Check::Refused(x) = checking::check_step(p, n, m, d, a, r.len()) {
         return StepAnswer::NotDone(x);
     }
-    polynomial::copy(a, r);
+    arithmetic::copy(a, r);
     StepAnswer::Done(once(r, n, m, d + 1, Modulus::of(p)))
 }

@@ -10,12 +10,11 @@ use Rattle.algebra.proofs.Cases.{case-le}
 use Rattle.lattice.specs.Row.{Row}
 use Rattle.lists.specs.Part.{part}
 use Rattle.lists.specs.Skip.{skip}
-use Rattle.lists.proofs.Change.{getD-past}
+use Rattle.lists.proofs.Change.{getD-past, imap-copy}
 use Rattle.lists.proofs.Grid.{line-end, line-less, within}
 use Rattle.lists.proofs.Part.{length-part, getD-part}
-use Rattle.poly.specs.Polynomial.{zeros}
+use Rattle.arithmetic.specs.Operations.{zeros}
 use Rattle.poly.specs.Reading.{Holds}
-use Rattle.poly.proofs.Places.{imap-copy}
 use Rattle.buffers.specs.Held.{Held}
 use Rattle.buffers.specs.Written.{CellsWritten}
 use Rattle.buffers.proofs.Place.{block-own, by-rows}

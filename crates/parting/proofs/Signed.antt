@@ -18,10 +18,11 @@ use Rattle.algebra.proofs.Series.{series, neg-at, const-mul-at}
 use Rattle.lists.proofs.Change.{length-imap, getD-imap, getD-past}
 use Rattle.lists.proofs.Total.{total-same}
 use Rattle.residues.specs.Modulus.{Ready}
-use Rattle.poly.specs.Polynomial.{height, productAt, productOf, Product, scaledBy}
+use Rattle.poly.specs.Polynomial.{height}
+use Rattle.arithmetic.specs.Operations.{productAt, productOf, Product, scaledBy}
 use Rattle.poly.specs.Reading.{Holds}
 use Rattle.poly.proofs.Ending.{ends-height}
-use Rattle.poly.proofs.Reading.{holds-product, holds-scaled, product-number}
+use Rattle.arithmetic.proofs.Reading.{holds-product, holds-scaled, product-number}
 use Rattle.parting.specs.Signed.{signedProduct, signed, MultiplyAsked}
 
 -- the places in use are all of the polynomial

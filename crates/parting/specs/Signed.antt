@@ -4,7 +4,7 @@ use mathlib.Core.List.{List}
 use Prim.Native.Nat.{ℕ, _-_, _≤_}
 use lib.ListN.{length}
 use Rattle.algebra.specs.Ring.{CommRing}
-use Rattle.poly.specs.Polynomial.{productOf, Product, scaledBy}
+use Rattle.arithmetic.specs.Operations.{productOf, Product, scaledBy}
 
 -- the unit of a sign modulo p: -1 is p - 1
 abbrev pub unitOf : ℕ → (negative : Bool) → ℕ

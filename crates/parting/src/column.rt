@@ -3,7 +3,6 @@ ghost use mathlib.Core.Path.{_≡_};
 ghost use Prim.Native.Nat.{_<_};
 ghost use Rattle.lists.specs.Skip.{skip};
 ghost use Rattle.parting.specs.Parting.{CellAsked, CellFilled, PartAsked, Parted};
-use poly::polynomial;
 
 // Row s of those that are left when row k is taken out.
 fn skip(k: usize, s: usize) -> usize
@@ -20,8 +19,8 @@ fn fill(from: &[u16], buf: &mut [u16], at: usize, size: usize)
 {
     let middle = at + from.len();
     let end = at + size;
-    polynomial::copy(from, &mut buf[at..middle]);
-    polynomial::clear(&mut buf[middle..end]);
+    arithmetic::copy(from, &mut buf[at..middle]);
+    arithmetic::clear(&mut buf[middle..end]);
 }
 
 // Of the m rows of r that are left without row k, `next` takes all cells but the last, and `column` the last. Where k is m the

@@ -25,7 +25,7 @@ pub fn multiply(product: &mut [u16], spare: &mut [u16], factor: &[u16], negative
     let places = product.len();
     let a = polynomial::used(product);
     let b = polynomial::used(factor);
-    polynomial::product(&product[..a], &factor[..b], &mut spare[..places], md);
-    polynomial::copy(&spare[..places], product);
-    polynomial::scale(product, unit(negative, md), md);
+    arithmetic::product(&product[..a], &factor[..b], &mut spare[..places], md);
+    arithmetic::copy(&spare[..places], product);
+    arithmetic::scale(product, unit(negative, md), md);
 }

@@ -1,18 +1,22 @@
--- The zeros at the end of a list.
+-- The zeros at the end of a list, and what is read off where they begin: the degree, the leading coefficient, sameness.
 use mathlib.Core.Path.{_≡_, refl, sym, ap, ap₂, _∙_}
 use mathlib.Core.Logic.{_≢_, _↔_}
 use mathlib.Core.List.{List}
-use Prim.Native.Nat.{ℕ, _+_, _-_, _≤_, _<_}
+use Prim.Native.Nat.{ℕ, suc, _+_, _-_, _^_, _≤_, _<_}
 use native.Mathlib.Decide.{decLe}
 use native.Mathlib.Omega.{arith}
 use borrow.Author.Count.{below-more}
+use borrow.Author.Tests.{lt-ltb}
 use lib.Bits.{bitOr, or-add-and, and-le-l, and-le-r}
+use lib.IntN.{pos, predℤ}
 use lib.ListN.{length, getD}
+use mir.Syntax.{w64}
+use mir.Val.{toZ}
 use Rattle.lists.specs.Part.{part}
 use Rattle.lists.proofs.Change.{getD-past}
 use Rattle.lists.proofs.Last.{last-is, last-unique}
 use Rattle.lists.proofs.Part.{length-part, getD-part}
-use Rattle.poly.specs.Polynomial.{height}
+use Rattle.poly.specs.Polynomial.{height, leadingOf, SamePolynomial}
 
 -- the first i places are zero
 abbrev pub ZerosBelow : List ℕ → ℕ → Type 0
@@ -69,3 +73,46 @@ ends-height l = let x = last-is (length l) (λ i. getD l i 0) in record {
 -- the last that is not zero is the one before n
 pub ends-at : (l : List ℕ) (n : ℕ) → Ends l n → (0 < n → getD l (n - 1) 0 ≢ 0) → n ≡ height l
 ends-at l n e top = sym (last-unique (length l) (λ i. getD l i 0) n (record { within = e .within; zeros = λ i h _. e .zeros i h; top = top }))
+
+-- the zero polynomial has no leading coefficient
+pub leading-none : (l : List ℕ) → height l ≡ 0 → leadingOf l ≡ 0
+leading-none l z = ends-height l .zeros (height l - 1) (omega arith)
+
+-- the degree of a polynomial that is not zero, as the machine has it
+pub machine-degree : (h n : ℕ) → n ≡ h → 0 < n → n ≤ 2 ^ 63 → toZ w64 (n - 1) ≡ predℤ (pos h)
+machine-degree h n e po fits = simp (lt-ltb (n - 1) (2 ^ 63) (omega arith)) (sym (ap (λ (m : ℕ). predℤ (pos m)) (sym e ∙ whole)))
+  where
+    whole : n ≡ suc (n - 1)
+    whole = omega arith
+
+module _ (a b : List ℕ) where
+  -- the same polynomial ends at the same place
+  pub same-height : SamePolynomial a b → height a ≡ height b
+  same-height s = sym (ends-at a (height b) ends some)
+    where
+      some : 0 < height b → getD a (height b - 1) 0 ≢ 0
+      some h z = last-is (length b) (λ i. getD b i 0) .top h (sym (s .same (height b - 1)) ∙ z)
+
+      ends : Ends a (height b)
+      ends = record {
+        within = elim (decLe (height b) (length a)) [
+          | yes in-a ↦ in-a
+          | no past ↦ absurd (some (omega arith) (getD-past a (height b - 1) (omega arith)))
+        ];
+        zeros = λ i h. s .same i ∙ ends-height b .zeros i h;
+      }
+
+  -- where the loop stands that compares two lists that end at n, having come to i
+  pub record Comparing (n i : ℕ) : Type 0 where
+    pub first : n ≡ height a
+    pub second : n ≡ height b
+    pub to : i ≤ n
+    pub same : (j : ℕ) → j < i → getD a j 0 ≡ getD b j 0
+
+  pub comparing-end : (n i : ℕ) → Comparing n i → n ≤ i → SamePolynomial a b
+  comparing-end n i c h = record {
+    same = λ j. elim (decLe n j) [
+      | yes past ↦ ends-height a .zeros j (omega (arith, c .first)) ∙ sym (ends-height b .zeros j (omega (arith, c .second)))
+      | no before ↦ c .same j (omega arith)
+    ];
+  }

@@ -1,4 +1,2 @@
 pub mod Ending
-pub mod Places
-pub mod Asked
 pub mod Reading

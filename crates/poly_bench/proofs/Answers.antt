@@ -5,7 +5,7 @@ use mathlib.Core.List.{List}
 use Prim.Native.Nat.{ℕ, _+_, _≤_}
 use lib.ListN.{length}
 use Rattle.residues.specs.Modulus.{Accepted}
-use Rattle.poly.specs.Polynomial.{productOf}
+use Rattle.arithmetic.specs.Operations.{productOf}
 use Rattle.algebra.proofs.Flag.{true-false, says-yes, says-no}
 use Rattle.poly_bench.specs.Rounds.{repeated, Summed, Added, Multiplied}
 

@@ -6,7 +6,7 @@ use mathlib.Core.List.{List}
 use mathlib.Core.Logic.{_↔_}
 use lib.ListN.{length}
 use Rattle.residues.specs.Modulus.{Accepted}
-use Rattle.poly.specs.Polynomial.{plusMultiple, productOf, scaledBy}
+use Rattle.arithmetic.specs.Operations.{plusMultiple, productOf, scaledBy}
 
 -- g applied n times
 unfoldable pub repeated : ℕ → (List ℕ → List ℕ) → List ℕ → List ℕ

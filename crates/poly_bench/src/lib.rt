@@ -1,12 +1,12 @@
 // The row operation and the product, many rounds of each, for a C program to time (bench/poly.c).
-use poly::polynomial;
 use residues::Modulus;
 use residues::Residue;
 ghost use mathlib.Core.Path.{_≡_};
 ghost use Prim.Native.Nat.{_+_, _<_, _≤_};
 ghost use lib.ListN.{length};
 ghost use Rattle.residues.specs.Modulus.{Ready};
-ghost use Rattle.poly.specs.Polynomial.{Coefficients, plusMultiple, Product, productOf};
+ghost use Rattle.poly.specs.Polynomial.{Coefficients};
+ghost use Rattle.arithmetic.specs.Operations.{plusMultiple, Product, productOf};
 ghost use Rattle.poly_bench.specs.Rounds.{repeated, Summed, Added, Multiplied};
 
 fn add_rounds(a: &mut [u16], b: &[u16], c: Residue, e: usize, m: Modulus, rounds: u32)
@@ -16,7 +16,7 @@ fn add_rounds(a: &mut [u16], b: &[u16], c: Residue, e: usize, m: Modulus, rounds
 {
     let mut i: u32 = 0;
     while i < rounds {
-        polynomial::add_multiple(a, b, c, e, m);
+        arithmetic::add_multiple(a, b, c, e, m);
         i += 1;
     }
 }
@@ -27,8 +27,8 @@ fn add_reduced(a: &mut [u16], b: &mut [u16], c: u32, e: usize, m: Modulus, round
     ensures { λ _. ⌜ Summed c e (m .p) rounds (now (a .entry)) (now (b .entry)) (now (a .exit)) (now (b .exit)) ⌝ }
 {
     let f = Residue::of(c, m);
-    polynomial::scale(a, Residue::ONE, m);
-    polynomial::scale(b, Residue::ONE, m);
+    arithmetic::scale(a, Residue::ONE, m);
+    arithmetic::scale(b, Residue::ONE, m);
     add_rounds(a, b, f, e, m, rounds);
 }
 
@@ -38,7 +38,7 @@ fn product_rounds(a: &[u16], b: &[u16], out: &mut [u16], m: Modulus, rounds: u32
 {
     let mut i: u32 = 0;
     while i < rounds {
-        polynomial::product(a, b, out, m);
+        arithmetic::product(a, b, out, m);
         i += 1;
     }
 }

@@ -1,5 +1,5 @@
-// Prints what the functions of `poly` answer for small and extreme inputs. The file stdout beside this folder has what they
-// should print; expected.py, which shares no code with `poly`, works it out.
+// Prints what the functions of `poly` and `arithmetic` answer for small and extreme inputs. The file stdout beside this folder
+// has what they should print; expected.py, which shares no code with them, works it out.
 use libc::STDOUT_FILENO;
 use poly::Degree;
 use poly::polynomial;
@@ -88,7 +88,7 @@ fn fill(a: &mut [u16], seed: u32, m: Modulus)
     ensures { λ _. ⌜ Coefficients (m .p) (now (a .exit)) ⌝ }
 {
     mix(a, seed);
-    polynomial::scale(a, Residue::ONE, m);
+    arithmetic::scale(a, Residue::ONE, m);
 }
 
 // Of the zero polynomial, a constant and x^63, whose low zeros count.
@@ -112,7 +112,7 @@ fn say_multiple(c: u32, e: usize, seed: u32, m: Modulus)
     fill(&mut a, seed, m);
     fill(&mut b, seed + 1, m);
     let c = Residue::of(c, m);
-    polynomial::add_multiple(&mut a, &b, c, e, m);
+    arithmetic::add_multiple(&mut a, &b, c, e, m);
     say(b"factor ", c.0 as u64);
     say(b" exponent ", e as u64);
     end_line();
@@ -128,7 +128,7 @@ fn say_product(seed: u32, m: Modulus)
     let mut out = [0u16; 127];
     fill(&mut a, seed, m);
     fill(&mut b, seed + 1, m);
-    polynomial::product(&a, &b, &mut out, m);
+    arithmetic::product(&a, &b, &mut out, m);
     say_polynomial(b"product:", &out);
     say_degree(&out);
 }
@@ -139,11 +139,11 @@ fn say_scaled(c: u32, seed: u32, m: Modulus)
     let mut a = [0u16; 64];
     let mut b = [0u16; 64];
     fill(&mut a, seed, m);
-    polynomial::copy(&a, &mut b);
-    polynomial::scale(&mut a, Residue::of(c, m), m);
+    arithmetic::copy(&a, &mut b);
+    arithmetic::scale(&mut a, Residue::of(c, m), m);
     say_polynomial(b"scaled:", &a);
     say_flag(b"same as before: ", polynomial::equal(&a, &b));
-    polynomial::clear(&mut b);
+    arithmetic::clear(&mut b);
     say_flag(b", cleared is zero: ", polynomial::equal(&b, &[]));
     end_line();
 }

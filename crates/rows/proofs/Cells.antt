@@ -12,8 +12,9 @@ use Rattle.algebra.proofs.Cases.{case-le}
 use Rattle.lists.specs.Part.{part}
 use Rattle.lists.proofs.Change.{getD-past}
 use Rattle.lists.proofs.Part.{length-part, getD-part}
-use Rattle.poly.specs.Polynomial.{Coefficients, shifted, plusMultiple, Multiple}
-use Rattle.poly.proofs.Asked.{with-room}
+use Rattle.poly.specs.Polynomial.{Coefficients}
+use Rattle.arithmetic.specs.Operations.{shifted, plusMultiple, Multiple}
+use Rattle.arithmetic.proofs.Asked.{with-room}
 use Rattle.buffers.specs.Where.{whereTrue}
 use Rattle.buffers.specs.Added.{raised, CellsAdded, CellAdded}
 use Rattle.rows.specs.Asked.{Multiplier, Short}

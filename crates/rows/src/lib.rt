@@ -6,7 +6,6 @@ ghost use Rattle.buffers.specs.Place.{inRow, place};
 ghost use Rattle.buffers.specs.Added.{CellsAdded, CellAdded, RowAdded, ColumnAdded};
 ghost use Rattle.buffers.specs.Diagonal.{Diagonal};
 ghost use Rattle.rows.specs.Asked.{spaced, Aside, RowPair, RowsInBuffer, CellPair, CellPairs, LinePair, Square};
-use poly::polynomial;
 use residues::Modulus;
 use residues::Residue;
 
@@ -30,7 +29,7 @@ fn add_to_row(
         let start = j * w;
         let end = start + w;
         let used = start + top;
-        polynomial::add_multiple(&mut row[start..end], &other[start..used], c, e, md);
+        arithmetic::add_multiple(&mut row[start..end], &other[start..used], c, e, md);
         j += 1;
     }
 }
@@ -41,7 +40,7 @@ fn set_aside(buf: &[u16], from: usize, size: usize, spare: &mut [u16])
     ensures { λ _. ⌜ take size (now (spare .exit)) ≡ part from size (now (buf .entry)) ⌝ }
 {
     let end = from + size;
-    polynomial::copy(&buf[from..end], &mut spare[..size]);
+    arithmetic::copy(&buf[from..end], &mut spare[..size]);
 }
 
 // Row l takes c·x^e times row k: row k is set aside, and row l's part of the buffer is lent on.
@@ -84,7 +83,7 @@ fn add_cell(
 {
     set_aside(buf, from, top, spare);
     let end = to + w;
-    polynomial::add_multiple(&mut buf[to..end], &spare[..top], c, e, md);
+    arithmetic::add_multiple(&mut buf[to..end], &spare[..top], c, e, md);
 }
 
 // The same for `count` pairs of cells, which follow one another at equal distances: the cells of two rows or of two columns.
@@ -157,7 +156,7 @@ pub fn write_identity(u: &mut [u16], n: usize, w: usize)
     requires { ⌜ Square n w (now u) ⌝ }
     ensures { λ _. ⌜ Diagonal n w (now (u .exit)) ⌝ }
 {
-    polynomial::clear(u);
+    arithmetic::clear(u);
     let mut i = 0;
     while i < n {
         let at = i * (n * w) + i * w;

@@ -2,7 +2,6 @@
 ghost use Prim.Native.Nat.{_*_};
 ghost use Rattle.buffers.specs.Scaled.{CellScaled, RowScaled, ColumnScaled};
 ghost use Rattle.scaling.specs.Asked.{PartToScale, ColumnToScale};
-use poly::polynomial;
 use residues::Modulus;
 use residues::Residue;
 
@@ -12,7 +11,7 @@ fn scale_part(buf: &mut [u16], start: usize, size: usize, c: Residue, md: Modulu
     ensures { λ _. ⌜ CellScaled (md .p) (c .0) size start (now (buf .entry)) (now (buf .exit)) ⌝ }
 {
     let end = start + size;
-    polynomial::scale(&mut buf[start..end], c, md);
+    arithmetic::scale(&mut buf[start..end], c, md);
 }
 
 pub fn scale_row(buf: &mut [u16], i: usize, m: usize, w: usize, c: Residue, md: Modulus)

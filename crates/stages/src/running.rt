@@ -1,7 +1,6 @@
 // One stage after the other. The buffers have room for the first one, and every later one stands in their front.
 ghost use Rattle.stages.specs.Run.{TurnAsked, Turned, RunAsked, Ran};
 use crate::stage;
-use poly::polynomial;
 use residues::Modulus;
 
 // A stage, and its columns are put back where they were taken from. The budget of the next stage is returned.
@@ -40,7 +39,7 @@ fn turn(
         wide,
         md,
     );
-    polynomial::copy(&next[..less], &mut r[..less]);
+    arithmetic::copy(&next[..less], &mut r[..less]);
     left
 }
 

@@ -2,7 +2,7 @@ use native.Mathlib.Omega.{arith}
 use borrow.Author.Needs.{needs}
 use Prim.Native.Nat.{_<_}
 use native.Mathlib.Nat.{mod-lt}
-use Rattle.poly.proofs.Asked.{scaled-coefficients}
+use Rattle.arithmetic.proofs.Asked.{scaled-coefficients}
 use Rattle.poly_bench.proofs.add_reduced.Statement.{statement}
 use Rattle.poly_bench.proofs.add_reduced.Tie as tie
 

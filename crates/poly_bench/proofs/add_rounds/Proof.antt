@@ -3,8 +3,9 @@ use native.Mathlib.Omega.{arith}
 use mathlib.Core.Path.{_≡_, refl, sym, _∙_}
 use Prim.Native.Nat.{_≤_, _-_}
 use lib.ListN.{length}
-use Rattle.poly.specs.Polynomial.{Coefficients, plusMultiple}
-use Rattle.poly.proofs.Asked.{sum-coefficients, with-room}
+use Rattle.poly.specs.Polynomial.{Coefficients}
+use Rattle.arithmetic.specs.Operations.{plusMultiple}
+use Rattle.arithmetic.proofs.Asked.{sum-coefficients, with-room}
 use Rattle.poly_bench.specs.Rounds.{repeated}
 use Rattle.poly_bench.proofs.Repeat.{repeated-none, repeated-more, repeated-all}
 use Rattle.poly_bench.proofs.add_rounds.Statement.{statement}

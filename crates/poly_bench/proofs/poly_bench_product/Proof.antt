@@ -5,7 +5,7 @@ use Rattle.algebra.proofs.Flag.{denied}
 use Rattle.poly_bench.proofs.Answers.{product-refused, product-done}
 use Rattle.residues.specs.Modulus.{Accepted}
 use Rattle.residues.proofs.Range.{in-range}
-use Rattle.poly.proofs.Asked.{product-room}
+use Rattle.arithmetic.proofs.Asked.{product-room}
 use Rattle.poly_bench.proofs.poly_bench_product.Statement.{statement}
 use Rattle.poly_bench.proofs.poly_bench_product.Tie as tie
 

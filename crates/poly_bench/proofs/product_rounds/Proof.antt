@@ -3,7 +3,7 @@ use native.Mathlib.Omega.{arith}
 use mathlib.Core.Path.{_≡_, refl, sym, _∙_}
 use Prim.Native.Nat.{_≤_, _-_}
 use lib.ListN.{length}
-use Rattle.poly.specs.Polynomial.{productOf}
+use Rattle.arithmetic.specs.Operations.{productOf}
 use Rattle.poly_bench.specs.Rounds.{repeated}
 use Rattle.poly_bench.proofs.Repeat.{repeated-none, repeated-more, repeated-all}
 use Rattle.poly_bench.proofs.product_rounds.Statement.{statement}

@@ -2,7 +2,7 @@ use native.Mathlib.Omega.{arith}
 use borrow.Author.Needs.{needs}
 use Prim.Native.Nat.{_<_}
 use native.Mathlib.Nat.{mod-lt}
-use Rattle.poly.proofs.Asked.{with-room}
+use Rattle.arithmetic.proofs.Asked.{with-room}
 use Rattle.poly_vectors.proofs.say_multiple.Statement.{statement}
 use Rattle.poly_vectors.proofs.say_multiple.Tie as tie
 

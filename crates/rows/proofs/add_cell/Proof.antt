@@ -7,7 +7,7 @@ use lib.ListN.{take, drop}
 use lib.Seq.{length-take-le}
 use Rattle.lists.specs.Part.{part}
 use Rattle.lists.proofs.Part.{length-part}
-use Rattle.poly.specs.Polynomial.{plusMultiple, Multiple}
+use Rattle.arithmetic.specs.Operations.{plusMultiple, Multiple}
 use Rattle.buffers.specs.Added.{CellAdded}
 use Rattle.rows.specs.Asked.{CellPair}
 use Rattle.rows.proofs.Cells.{shifted-part, cell-lent, cell-back}

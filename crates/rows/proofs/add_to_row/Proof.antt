@@ -6,7 +6,7 @@ use Prim.Native.Nat.{ℕ, _+_, _*_, _-_, _≤_, _<_}
 use native.Mathlib.Nat.{add-sub-cancel-left}
 use lib.ListN.{length, take, drop}
 use Rattle.lists.proofs.Part.{length-part}
-use Rattle.poly.specs.Polynomial.{plusMultiple, Multiple}
+use Rattle.arithmetic.specs.Operations.{plusMultiple, Multiple}
 use Rattle.buffers.specs.Place.{inRow}
 use Rattle.lists.proofs.Grid.{line-end}
 use Rattle.rows.specs.Asked.{RowPair}

@@ -7,7 +7,7 @@ use lib.ListN.{length, set, length-set}
 use lib.Seq.{getD-set-same, getD-set-other}
 use Rattle.algebra.proofs.Cases.{case-le}
 use Rattle.lists.proofs.Change.{length-imap, getD-imap-every}
-use Rattle.poly.specs.Polynomial.{zeros}
+use Rattle.arithmetic.specs.Operations.{zeros}
 use Rattle.buffers.specs.Place.{place}
 use Rattle.buffers.specs.Diagonal.{Ones}
 use Rattle.lists.proofs.Grid.{line-end}

@@ -4,7 +4,7 @@ use mathlib.Core.List.{List, _++_}
 use Prim.Native.Nat.{ℕ, _+_, _*_, _-_, _%_, _≤_}
 use native.Mathlib.Nat.{add-sub-cancel-left}
 use lib.ListN.{length, take, drop}
-use Rattle.poly.specs.Polynomial.{scaledBy}
+use Rattle.arithmetic.specs.Operations.{scaledBy}
 use Rattle.buffers.specs.Scaled.{CellScaled}
 use Rattle.rows.proofs.Written.{cell-changed}
 use Rattle.scaling.proofs.scale_part.Statement.{statement}

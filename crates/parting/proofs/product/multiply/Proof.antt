@@ -2,7 +2,7 @@ use borrow.Author.Needs.{needs}
 use native.Mathlib.Omega.{arith}
 use mathlib.Core.Path.{sym, ap₂, _∙_}
 use lib.Seq.{length-take-le}
-use Rattle.poly.specs.Polynomial.{scaledBy}
+use Rattle.arithmetic.specs.Operations.{scaledBy}
 use Rattle.parting.specs.Signed.{signedProduct}
 use Rattle.parting.proofs.Signed.{used-asked, made-whole, made-size}
 use Rattle.parting.proofs.product.multiply.Statement.{statement}

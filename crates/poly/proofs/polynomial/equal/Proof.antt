@@ -1,37 +1,50 @@
+use borrow.Author.Count.{below-more}
 use borrow.Author.Needs.{needs}
 use native.Mathlib.Omega.{arith}
-use mathlib.Core.Path.{_≡_, sym, _∙_}
-use Prim.Native.Nat.{ℕ, _≤_, _<_, _-_}
-use lib.ListN.{length, getD}
-use borrow.Author.Count.{below-more}
+use mathlib.Core.Path.{sym, _∙_}
+use Prim.Native.Nat.{_-_}
 use Rattle.algebra.proofs.Flag.{says-yes, says-no}
-use Rattle.poly.proofs.Places.{same-upto}
+use Rattle.poly.proofs.Ending.{same-height, Comparing, comparing-end}
 use Rattle.poly.proofs.polynomial.equal.Statement.{statement}
 use Rattle.poly.proofs.polynomial.equal.Tie as tie
 
 abbrev Inv-loop : tie.InvT-loop
-Inv-loop a b end i₀ i = (i ≤ end) × (length a ≤ end) × (length b ≤ end) × ((j : ℕ) → j < i → getD a j 0 ≡ getD b j 0)
+Inv-loop a b n i₀ i = Comparing a b n i
 
 abbrev μ-loop : tie.MeasureT-loop
-μ-loop a b end i₀ i = end - i
+μ-loop a b n i₀ i = n - i
 
-excess-requires : tie.Need-excess-requires Inv-loop μ-loop
-excess-requires c κs = search needs
+used-requires : tie.Need-used-requires Inv-loop μ-loop
+used-requires c κs = search needs
 
-add-end : tie.Need-add-end Inv-loop μ-loop
-add-end c = omega arith
-
-loop-holds : tie.Need-loop-holds Inv-loop μ-loop
-loop-holds c = (search needs, omega arith, omega arith, λ j h. absurd (omega arith))
-
-coefficient-requires : tie.Need-coefficient-requires Inv-loop μ-loop
-coefficient-requires c κs = search needs
-
-coefficient-requires-2 : tie.Need-coefficient-requires-2 Inv-loop μ-loop
-coefficient-requires-2 c κs = search needs
+used-requires-2 : tie.Need-used-requires-2 Inv-loop μ-loop
+used-requires-2 c κs = search needs
 
 returns : tie.Need-returns Inv-loop μ-loop
-returns c = says-no (λ s. c .if1 .taken (c .before .before .coefficient .ensures ∙ s .same _ ∙ sym (c .before .coefficient2 .ensures)))
+returns c = says-no (λ s. c .if1 .taken (c .before .before .used .ensures .0 ∙ same-height _ _ s ∙ sym (c .before .used2 .ensures .0)))
+
+loop-holds : tie.Need-loop-holds Inv-loop μ-loop
+loop-holds c = record {
+  first = c .before .before .used .ensures .0;
+  second = c .if1 .left ∙ c .before .used2 .ensures .0;
+  to = omega arith;
+  same = λ j h. absurd (omega arith);
+}
+
+mul-if2 : tie.Need-mul-if2 Inv-loop μ-loop
+mul-if2 c = omega arith
+
+shared-slice-read-if2 : tie.Need-shared-slice-read-if2 Inv-loop μ-loop
+shared-slice-read-if2 c = omega arith
+
+mul-if2-2 : tie.Need-mul-if2-2 Inv-loop μ-loop
+mul-if2-2 c = omega arith
+
+shared-slice-read-if2-2 : tie.Need-shared-slice-read-if2-2 Inv-loop μ-loop
+shared-slice-read-if2-2 c = omega arith
+
+returns-2 : tie.Need-returns-2 Inv-loop μ-loop
+returns-2 c = says-no (λ s. c .if2 .taken (s .same _))
 
 add-i : tie.Need-add-i Inv-loop μ-loop
 add-i c = omega arith
@@ -42,12 +55,10 @@ loop-less c = omega arith
 loop-again : tie.Need-loop-again Inv-loop μ-loop
 loop-again c =
     let inv = c .before .before .before .before .loop .inv in
-    (omega arith, inv .1, inv .2, below-more _ _ (inv .3) (sym (c .before .before .coefficient .ensures) ∙ c .if1 .left ∙ c .before .coefficient2 .ensures))
+    record { first = inv .first; second = inv .second; to = omega arith; same = below-more _ _ (inv .same) (c .if2 .left) }
 
-returns-2 : tie.Need-returns-2 Inv-loop μ-loop
-returns-2 c =
-    let inv = c .before .loop .inv in
-    says-yes (same-upto _ _ _ (inv .1) (inv .2) (λ i h. inv .3 i (omega arith)))
+returns-3 : tie.Need-returns-3 Inv-loop μ-loop
+returns-3 c = says-yes (comparing-end _ _ _ _ (c .before .loop .inv) (omega arith))
 
 pub equal-spec : {M : Type 1} → statement M
 equal-spec =
@@ -55,13 +66,16 @@ equal-spec =
     (tie.spec
     Inv-loop
     μ-loop
-    excess-requires
-    add-end
-    loop-holds
-    coefficient-requires
-    coefficient-requires-2
+    used-requires
+    used-requires-2
     returns
+    loop-holds
+    mul-if2
+    shared-slice-read-if2
+    mul-if2-2
+    shared-slice-read-if2-2
+    returns-2
     add-i
     loop-less
     loop-again
-    returns-2)
+    returns-3)

@@ -3,7 +3,7 @@ use borrow.Author.Needs.{needs}
 use mathlib.Core.Path.{sym, ap, _∙_}
 use Prim.Native.Nat.{ℕ, _-_}
 use lib.ListN.{getD}
-use Rattle.poly.proofs.Places.{leading-none}
+use Rattle.poly.proofs.Ending.{leading-none}
 use Rattle.poly.proofs.polynomial.leading.Statement.{statement}
 use Rattle.poly.proofs.polynomial.leading.Tie as tie
 

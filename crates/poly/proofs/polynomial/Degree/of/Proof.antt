@@ -3,7 +3,7 @@ use borrow.Author.Needs.{needs}
 use mathlib.Core.Path.{sym, ap, _∙_}
 use Prim.Native.Nat.{ℕ}
 use lib.IntN.{pos, predℤ}
-use Rattle.poly.proofs.Places.{degree-some}
+use Rattle.poly.proofs.Ending.{machine-degree}
 use Rattle.poly.proofs.polynomial.Degree.of.Statement.{statement}
 use Rattle.poly.proofs.polynomial.Degree.of.Tie as tie
 
@@ -20,7 +20,7 @@ cast-t5 : tie.Need-cast-t5
 cast-t5 c = search needs
 
 returns-2 : tie.Need-returns-2
-returns-2 c = degree-some _ _ (c .before .used .ensures .0) (omega arith) (omega arith)
+returns-2 c = machine-degree _ _ (c .before .used .ensures .0) (omega arith) (omega arith)
 
 pub of-spec : {M : Type 1} → statement M
 of-spec = tie.close (tie.spec used-requires returns sub-t4 cast-t5 returns-2)
