@@ -35,7 +35,7 @@ use Rattle.buffers.proofs.Place.{by-rows}
 use Rattle.stepping.specs.Holding.{Holding}
 use Rattle.running.specs.Listed.{maskOf}
 use Rattle.running.specs.Reduced.{ReducedBy}
-use Rattle.matrix.specs.Popov.{PopovBy}
+use Rattle.finishing.specs.Finishing.{PopovBy}
 use Rattle.matrix.specs.Determinant.{IsDeterminant}
 use Rattle.examples.specs.Answers.{Answers, ArePivots}
 use Rattle.examples.proofs.Listing.{listing, length-listing, getD-listing, written, held-written}

@@ -17,8 +17,8 @@ use Rattle.reduction.specs.Rank.{sign}
 use Rattle.reduction.proofs.Facts.{reduction-facts}
 use Rattle.refusals.specs.Refused.{reductionSizes}
 use Rattle.refusals.proofs.Answering.{InOrder, in-order}
-use Rattle.running.specs.Reduced.{ReducedBy}
-use Rattle.matrix.specs.Answer.{lengths, IsDone, Promised}
+use Rattle.running.specs.Reduced.{ReducedBy, IsDone}
+use Rattle.matrix.specs.Answer.{lengths, Promised}
 use Rattle.matrix.specs.Facts.{DoneFacts}
 use Rattle.pivots.specs.Pivot.{valuesOf}
 use Rattle.stepping.proofs.Value.{value-held}

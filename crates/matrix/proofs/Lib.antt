@@ -2,9 +2,7 @@ pub mod Service
 pub mod Facts
 pub mod Unique
 pub mod SingleService
-pub mod SingleStep
 pub mod PopovFacts
-pub mod Finishing
 pub mod PopovService
 pub mod DeterminantService
 pub mod DeterminantFacts

@@ -25,8 +25,9 @@ use Rattle.refusals.specs.Refused.{reductionSizes}
 use Rattle.refusals.proofs.Answering.{refusal-number, InOrder, in-order}
 use Rattle.refusals.proofs.Unique.{refusal-same, answering-unique, told-unique}
 use Rattle.stepping.specs.Holding.{Holding}
+use Rattle.finishing.specs.Finishing.{PopovBy, IsPopov}
 use Rattle.matrix.specs.Answer.{lengths}
-use Rattle.matrix.specs.Popov.{PopovBy, IsPopov, PopovPromised, PopovAnswered, numberOf, placeOf, rankOf, firstOf, secondOf}
+use Rattle.matrix.specs.Popov.{PopovPromised, PopovAnswered, numberOf, placeOf, rankOf, firstOf, secondOf}
 use Rattle.matrix.specs.declared.popov_form.PopovAnswer.{PopovAnswer}
 use Rattle.matrix.specs.declared.popov_form.PopovAnswer.the-variants.{NotDone, Done}
 use Rattle.matrix.proofs.Unique.{holding-unique}

@@ -8,8 +8,9 @@ use Rattle.residues.specs.Modulus.{Ready}
 use Rattle.refusals.specs.Answering.{Told}
 use Rattle.refusals.specs.Refused.{stepSizes, refusalTable}
 use Rattle.refusals.proofs.Answering.{answer-done, InOrder, in-order}
-use Rattle.matrix.specs.Asked.{InputAsked}
-use Rattle.matrix.specs.Single.{Stepped, StepAnswered}
+use Rattle.running.specs.Asked.{InputAsked}
+use Rattle.running.specs.SteppedOnce.{SteppedOnce}
+use Rattle.matrix.specs.Single.{StepAnswered}
 use Rattle.matrix.specs.declared.single.StepAnswer.the-variants.{Done}
 use Rattle.matrix.proofs.Service.{input-asked}
 
@@ -34,6 +35,6 @@ module _ {p n m d : ℕ} {a r : List ℕ} (passed : StepPassed p n m d a r) wher
   step-asked q-is ready r-is = input-asked (step-order .numbers) (sized 0) (step-order .residues) q-is ready r-is
 
   -- a step on the copy is a step on the input
-  pub step-answered : (q count : ℕ) (b r′ : List ℕ) → q ≡ p → b ≡ a → Stepped q n m (d + 1) count b r′ → StepAnswered p n m d a r r′ (Done count)
+  pub step-answered : (q count : ℕ) (b r′ : List ℕ) → q ≡ p → b ≡ a → SteppedOnce q n m (d + 1) count b r′ → StepAnswered p n m d a r r′ (Done count)
   step-answered q count b r′ q-is b-is h =
-      answer-done (passed .told) (subst (λ (t : List ℕ). Stepped p n m (d + 1) count t r′) b-is (subst (λ (t : ℕ). Stepped t n m (d + 1) count b r′) q-is h))
+      answer-done (passed .told) (subst (λ (t : List ℕ). SteppedOnce p n m (d + 1) count t r′) b-is (subst (λ (t : ℕ). SteppedOnce t n m (d + 1) count b r′) q-is h))

@@ -22,9 +22,10 @@ use Rattle.refusals.proofs.Answering.{refusal-number, in-order}
 use Rattle.refusals.proofs.Unique.{refusal-same, told-unique, answering-unique}
 use Rattle.stepping.specs.Holding.{Holding}
 use Rattle.running.specs.Listed.{maskOf}
-use Rattle.running.specs.Reduced.{Reduced}
-use Rattle.matrix.specs.Answer.{lengths, IsDone, Promised, Answered, numberOf, placeOf, rankOf, countOf, rowsOf}
-use Rattle.matrix.specs.Single.{Stepped, StepPromised, StepAnswered}
+use Rattle.running.specs.Reduced.{Reduced, IsDone}
+use Rattle.running.specs.SteppedOnce.{SteppedOnce}
+use Rattle.matrix.specs.Answer.{lengths, Promised, Answered, numberOf, placeOf, rankOf, countOf, rowsOf}
+use Rattle.matrix.specs.Single.{StepPromised, StepAnswered}
 use Rattle.matrix.specs.Single as Single
 use Rattle.matrix.specs.declared.single.StepAnswer.{StepAnswer}
 use Rattle.matrix.specs.declared.single.StepAnswer.the-variants as Step
@@ -91,7 +92,7 @@ counted-unique n m z c c′ (inr (_, pair)) (inl (_, none)) = absurd (pair-exclu
 counted-unique n m z c c′ (inr (e, _)) (inr (e′, _)) = e ∙ sym e′
 
 -- the input determines the count of the single step and its result
-stepped-unique : {p n m w c c′ : ℕ} {a r r′ : List ℕ} → Prime p → Stepped p n m w c a r → Stepped p n m w c′ a r′
+stepped-unique : {p n m w c c′ : ℕ} {a r r′ : List ℕ} → Prime p → SteppedOnce p n m w c a r → SteppedOnce p n m w c′ a r′
     → _≡_ {A = ℕ × List ℕ} (c, r) (c′, r′)
 stepped-unique {p} {n} {m} {w} {c} {c′} P x y =
     let f = x .by P (omega (arith, P .two)) in

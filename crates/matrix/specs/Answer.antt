@@ -1,5 +1,4 @@
 -- The answer of the reduction, and what it promises.
-use mathlib.Core.Path.{_≡_}
 use mathlib.Core.Bool.{false}
 use mathlib.Core.List.{List, [], _∷_}
 use Prim.Native.Nat.{ℕ, _+_}
@@ -7,9 +6,7 @@ use lib.ListN.{length}
 use Rattle.refusals.specs.Number as Refusal
 use Rattle.refusals.specs.Answering.{Answering}
 use Rattle.refusals.specs.Refused.{reductionSizes, refusalTable}
-use Rattle.pivots.specs.Pivot.{valueOf, rowOf}
-use Rattle.running.specs.Listed.{IsListed}
-use Rattle.running.specs.Reduced.{Reduced}
+use Rattle.running.specs.Reduced.{IsDone}
 use Rattle.matrix.specs.declared.reducing.Answer.{Answer}
 use Rattle.matrix.specs.declared.reducing.Answer.the-variants.{NotDone, Done}
 
@@ -38,11 +35,6 @@ rowsOf (Done rank count rows) = rows
 abbrev pub lengths : (a r u v : List ℕ) → List ℕ
 lengths a r u v = length a ∷ length r ∷ length u ∷ length v ∷ []
 
--- the matrix in a is reduced: R, U and V stand in the buffers, and the answer has the count, the rank and the rows
-pub record IsDone (p n m w : ℕ) (a r u v : List ℕ) (rank count rows : ℕ) : Type 0 where
-  pub reduced : Reduced p n m w count a r u v
-  pub listed : IsListed n (λ i. valueOf m w (rowOf m w r i)) rank rows
-
 -- The promise of the reduction, over the numbers that it returns and what the buffers hold at entry and at exit. No
 -- determinant is wanted.
 abbrev pub Promised : (p n m d : ℕ) (a r u v r′ u′ v′ : List ℕ) (number place rank count rows : ℕ) → Type 0
@@ -54,7 +46,3 @@ Promised p n m d a r u v r′ u′ v′ number place rank count rows =
 -- the same of an answer, by its numbers
 abbrev pub Answered : (p n m d : ℕ) (a r u v r′ u′ v′ : List ℕ) → Answer → Type 0
 Answered p n m d a r u v r′ u′ v′ x = Promised p n m d a r u v r′ u′ v′ (numberOf x) (placeOf x) (rankOf x) (countOf x) (rowsOf x)
-
--- what is left of it where nothing is refused
-abbrev pub AnsweredDone : (p n m w : ℕ) (a r u v : List ℕ) → Answer → Type 0
-AnsweredDone p n m w a r u v x = (numberOf x ≡ 0) × IsDone p n m w a r u v (rankOf x) (countOf x) (rowsOf x)

@@ -1,4 +1,3 @@
-pub mod Asked
 pub mod Answer
 pub mod Facts
 pub mod Single

@@ -1,7 +1,5 @@
 // The whole reduction.
-ghost use Rattle.matrix.specs.Asked.{StartAsked};
-ghost use Rattle.matrix.specs.Answer.{Answered, AnsweredDone};
-use pivots::pivot;
+ghost use Rattle.matrix.specs.Answer.{Answered};
 use refusals::Check;
 use refusals::Refusal;
 use residues::Modulus;
@@ -13,32 +11,6 @@ pub enum Answer {
         count: u64,
         rows: usize,
     },
-}
-
-// The reduction of the matrix in r, with room of its own.
-fn work(
-    r: &mut [u16],
-    u: &mut [u16],
-    v: &mut [u16],
-    n: usize,
-    m: usize,
-    w: usize,
-    md: Modulus,
-) -> Answer
-    requires { ⌜ StartAsked (md .p) (md .reciprocal) n m w (now r) (now u) (now v) ⌝ }
-    ensures { λ x. ⌜ AnsweredDone (md .p) n m w (now (r .entry)) (now (r .exit)) (now (u .exit)) (now (v .exit)) x ⌝ }
-{
-    let mut spare = scratch::room();
-    let mut index = scratch::eight();
-    let mut degree = scratch::eight();
-    pivot::all(r, &mut index, &mut degree, n, m, w);
-    let count = running::run(r, u, v, &mut spare, &mut index, &mut degree, n, m, w, md);
-    let x = running::list(&index, n);
-    Answer::Done {
-        rank: x.rank,
-        count,
-        rows: x.rows,
-    }
 }
 
 // "U·A = R, V·R = A": the weak Popov form of the matrix in a, or a refusal that leaves every buffer as it was.
@@ -61,5 +33,10 @@ pub fn reduce(
     arithmetic::copy(a, r);
     rows::write_identity(u, n, n * w);
     rows::write_identity(v, n, w);
-    work(r, u, v, n, m, w, Modulus::of(p))
+    let x = running::run(r, u, v, n, m, w, Modulus::of(p));
+    Answer::Done {
+        rank: x.rank,
+        count: x.count,
+        rows: x.rows,
+    }
 }

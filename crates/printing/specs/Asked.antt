@@ -5,7 +5,7 @@ use Prim.Native.Nat.{ℕ, _+_, _*_}
 use lib.ListN.{length}
 use Rattle.poly.specs.Polynomial.{Coefficients}
 use Rattle.refusals.specs.Refused.{Numbers}
-use Rattle.matrix.specs.Answer.{IsDone}
+use Rattle.running.specs.Reduced.{IsDone}
 use Rattle.matrix.specs.Determinant.{IsDeterminant}
 
 -- an n by m matrix that no refusal applies to

@@ -5,7 +5,7 @@ use mathlib.Core.Path.{_≡_}
 use mathlib.Core.List.{List}
 use Prim.Native.Nat.{ℕ, _+_, _≤_, _<_}
 use Rattle.refusals.specs.Answering.{Told}
-use Rattle.matrix.specs.Answer.{IsDone}
+use Rattle.running.specs.Reduced.{IsDone}
 use Rattle.matrix.specs.Determinant.{IsDeterminant}
 use Rattle.format.specs.Line.{Lines}
 use Rattle.format.specs.File.{headLines, numbersOf, headModulus, headRows, headColumns, headDegree, bodyLines}

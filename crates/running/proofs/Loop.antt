@@ -4,19 +4,15 @@ use mathlib.Core.List.{List}
 use Prim.Native.Nat.{ℕ, suc, _+_, _-_, _*_, _≤_, _<_}
 use native.Mathlib.Omega.{arith}
 use native.Mathlib.Nat as N
-use lib.ListN.{length, getD}
+use lib.ListN.{getD}
 use Rattle.algebra.specs.Field.{Field}
-use Rattle.algebra.specs.Matrix.{identity}
 use Rattle.algebra.specs.Prime.{Prime}
 use Rattle.algebra.specs.Residue.{Zp}
-use Rattle.algebra.proofs.Cases.{case-le}
 use Rattle.algebra.proofs.PrimeField.{zp-field}
-use Rattle.algebra.proofs.Series.{series}
 use Rattle.lattice.specs.Row.{Row}
 use Rattle.lattice.specs.PolynomialMatrix.{AllBounded}
 use Rattle.lists.specs.Total.{total}
 use Rattle.lists.proofs.Total.{total-same}
-use Rattle.poly.specs.Polynomial.{Coefficients}
 use Rattle.buffers.specs.Place.{place}
 use Rattle.buffers.specs.Held.{Held, matrixOf}
 use Rattle.buffers.specs.Diagonal.{Diagonal}
@@ -35,6 +31,7 @@ use Rattle.reduction.proofs.Degrees.{D, spent-since, Narrow, narrow-start}
 use Rattle.pivots.specs.Pivot.{valuesOf, degreesOf, Pivots}
 use Rattle.stepping.specs.Holding.{Holding}
 use Rattle.stepping.specs.Move.{FirstMove}
+use Rattle.running.specs.Asked.{InputAsked}
 use Rattle.running.specs.Reduced.{ReducedBy}
 use Rattle.stepping.proofs.Value.{value-held}
 use Rattle.stepping.proofs.Moving.{height-is, step-falls, move-narrow, move-holding}
@@ -49,14 +46,7 @@ pub record LoopAt (p : ℕ) (P : Prime p) (some : 0 < p) (n m w : ℕ) (a r u v 
   pub onward : (c : ℕ) (s : Carried (Zp p)) → Runs (zp-field p P) n m w c t s
       → Runs (zp-field p P) n m w (count + c) (begin (zp-field p P .ring) (matrixOf (by-rows n m w) p some a)) s
 
--- what is asked of the matrix in a, at the start
-pub record Input (p n m w : ℕ) (a : List ℕ) : Type 0 where
-  pub columns : 0 < m
-  pub places : 0 < w
-  pub size : length a ≡ n * (m * w)
-  pub residues : Coefficients p a
-
-module _ {p n m w : ℕ} {a : List ℕ} (input : Input p n m w a) (P : Prime p) (some : 0 < p) where
+module _ {p reciprocal n m w : ℕ} {a : List ℕ} (input : InputAsked p reciprocal n m w a) (P : Prime p) (some : 0 < p) where
   abbrev K : Field (Zp p)
   K = zp-field p P
 
@@ -69,16 +59,14 @@ module _ {p n m w : ℕ} {a : List ℕ} (input : Input p n m w a) (P : Prime p) 
   bounded : AllBounded (K .ring) n m w A
   bounded = held-bounded (by-rows n m w) p P first
 
-  -- the cells of U have places, if there are any
-  wide : {u : List ℕ} → Diagonal n (n * w) u → Held (by-rows n n (n * w)) p u (identity (series (K .ring)))
-  wide d = case-le 1 n
-      (λ rows. held-identity p P n (n * w) (N.mul-pos rows (input .places)) d)
-      (λ none. record { size = d .size; at = λ i j t li _ _. absurd (omega arith); beyond = λ i j t li _ _. absurd (omega arith) })
-
   pub loop-start : {u v : List ℕ} → Diagonal n (n * w) u → Diagonal n w v → LoopAt p P some n m w a a u v 0
   loop-start du dv = record {
     t = begin (K .ring) A;
-    holding = record { R = first; U = wide du; V′ = held-identity p P n w (input .places) dv };
+    holding = record {
+      R = first;
+      U = held-identity p P n (n * w) (N.mul-pos (input .rows) (input .places)) du;
+      V′ = held-identity p P n w (input .places) dv;
+    };
     narrow = narrow-start K n m w A;
     onward = λ c s x. rw N.zero-add x;
   }

@@ -18,14 +18,15 @@ use Rattle.choosing.specs.Pair.{NextAsked, IsNextOf}
 use Rattle.pivots.specs.Pivot.{Pivots, leastDegree}
 use Rattle.choosing.specs.declared.pair.Next.the-variants.{Nothing, Rows}
 use Rattle.stepping.specs.Asked.{AdvanceAsked, Advanced}
-use Rattle.running.specs.Running.{RunAsked, Ran}
+use Rattle.running.specs.Asked.{InputAsked}
+use Rattle.running.specs.Repeating.{RepeatAsked, Repeated}
 use Rattle.stepping.proofs.Following.{renew-asked}
 use Rattle.pivots.proofs.LeastDegree.{least-below}
 use Rattle.choosing.proofs.Next.{pivots-asked}
 use Rattle.pivots.specs.Pivot.{valuesOf, degreesOf}
 use Rattle.stepping.proofs.Value.{values-total}
 use Rattle.stepping.proofs.Short.{holding-matrices}
-use Rattle.running.proofs.Loop.{Input, LoopAt, loop-start, loop-last, loop-turn, loop-falls, row-room, row-short, column-short}
+use Rattle.running.proofs.Loop.{LoopAt, loop-start, loop-last, loop-turn, loop-falls, row-room, row-short, column-short}
 use Rattle.stepping.proofs.RowsOf.{height-under, list-short, plan-asked, size-after, pivots-after}
 
 -- the buffers keep their lengths
@@ -46,12 +47,12 @@ pub record Running (p n m w : ℕ) (a u₀ v₀ spare₀ index₀ degree₀ r u 
   pub at : (P : Prime p) (some : 0 < p) → LoopAt p P some n m w a r u v count
   pub budget : count + total n (valuesOf m w r) ≤ total n (valuesOf m w a)
 
-module _ {p reciprocal n m w : ℕ} {a u₀ v₀ spare₀ index₀ degree₀ : List ℕ} (asked : RunAsked p reciprocal n m w a u₀ v₀ spare₀ index₀ degree₀) where
-  input : Input p n m w a
-  input = record { columns = asked .columns; places = asked .places; size = asked .size; residues = asked .residues }
+module _ {p reciprocal n m w : ℕ} {a u₀ v₀ spare₀ index₀ degree₀ : List ℕ} (asked : RepeatAsked p reciprocal n m w a u₀ v₀ spare₀ index₀ degree₀) where
+  abbrev input : InputAsked p reciprocal n m w a
+  input = asked .start .input
 
   positive : 0 < p
-  positive = omega (arith, asked .prime .two)
+  positive = omega (arith, input .prime .two)
 
   first-degrees : (i : ℕ) → i < n → getD degree₀ i 0 - 1 ≡ degreesOf m w a i
   first-degrees i l = ap (λ (h : ℕ). h - 1) (asked .pivots .row i l .degree-is)
@@ -62,17 +63,17 @@ module _ {p reciprocal n m w : ℕ} {a u₀ v₀ spare₀ index₀ degree₀ : L
     pivots = asked .pivots;
     lost = omega (arith, total-same n (λ i. getD degree₀ i 0 - 1) (degreesOf m w a) first-degrees);
     above = λ i l. omega (arith, least-below w n degree₀ i l);
-    at = λ P some. loop-start input P some (asked .u-one) (asked .v-one);
+    at = λ P some. loop-start input P some (asked .start .u-one) (asked .start .v-one);
     budget = omega arith;
   }
 
   module _ {r u v spare indices degrees : List ℕ} {count spent : ℕ}
       (inv : Running p n m w a u₀ v₀ spare₀ index₀ degree₀ r u v spare indices degrees count spent) where
-    here : LoopAt p (asked .prime) positive n m w a r u v count
-    here = inv .at (asked .prime) positive
+    here : LoopAt p (input .prime) positive n m w a r u v count
+    here = inv .at (input .prime) positive
 
     size : length r ≡ n * (m * w)
-    size = inv .lengths .r-same ∙ asked .size
+    size = inv .lengths .r-same ∙ input .size
 
     index-room : n ≤ length indices
     index-room = omega (arith, inv .lengths .index-same, asked .index-room)
@@ -82,12 +83,12 @@ module _ {p reciprocal n m w : ℕ} {a u₀ v₀ spare₀ index₀ degree₀ : L
 
     -- the counter fits
     pub count-fits : count ≤ 4096
-    count-fits = omega (arith, inv .budget, values-total m w a n, asked .small, ap (λ (x : ℕ). n * x) (N.mul-comm w m))
+    count-fits = omega (arith, inv .budget, values-total m w a n, input .small, ap (λ (x : ℕ). n * x) (N.mul-comm w m))
 
     pub next-asked : NextAsked n indices degrees
-    next-asked = pivots-asked n m (valuesOf m w r) indices degrees (inv .pivots) (asked .columns) (asked .columns-most) index-room degree-room
+    next-asked = pivots-asked n m (valuesOf m w r) indices degrees (inv .pivots) (input .columns) (input .columns-most) index-room degree-room
 
-    pub running-stop : IsNextOf n m (valuesOf m w r) Nothing → Ran p n m w count a r u v indices
+    pub running-stop : IsNextOf n m (valuesOf m w r) Nothing → Repeated p n m w count a r u v indices
     running-stop none = record {
       reduced = record { by = λ P some. loop-last input P some (inv .at P some) none };
       indices-are = λ i l. inv .pivots .row i l .index-is;
@@ -95,7 +96,7 @@ module _ {p reciprocal n m w : ℕ} {a u₀ v₀ spare₀ index₀ degree₀ : L
 
 -- a turn of the loop: rows l and k are to be reduced
 pub record Turn (p reciprocal n m w : ℕ) (a u₀ v₀ spare₀ index₀ degree₀ r u v spare indices degrees : List ℕ) (count spent l k : ℕ) : Type 0 where
-  pub asked : RunAsked p reciprocal n m w a u₀ v₀ spare₀ index₀ degree₀
+  pub asked : RepeatAsked p reciprocal n m w a u₀ v₀ spare₀ index₀ degree₀
   pub inv : Running p n m w a u₀ v₀ spare₀ index₀ degree₀ r u v spare indices degrees count spent
   pub next : IsNextOf n m (valuesOf m w r) (Rows l k)
 
@@ -116,7 +117,7 @@ module _ {p reciprocal n m w : ℕ} {a u₀ v₀ spare₀ index₀ degree₀ r u
   pub rows-fit : (l < length degrees) × (k < length degrees) × (l < 8) × (k < 8)
   rows-fit =
       let room = degree-room asked inv in
-      let few = asked .rows-most in
+      let few = input asked .rows-most in
       (omega (arith, l-fits), omega (arith, k-fits), omega (arith, l-fits), omega (arith, k-fits))
 
   -- what row k of U has at most fits
@@ -124,29 +125,29 @@ module _ {p reciprocal n m w : ℕ} {a u₀ v₀ spare₀ index₀ degree₀ r u
   reach-fits = (
     omega (arith, inv .above k k-fits),
     omega (arith, reducing .degrees, inv .pivots .row l l-fits .degree-is, inv .pivots .row k k-fits .degree-is),
-    row-room (input asked) (asked .prime) (positive asked) (here asked inv) (inv .pivots) spent (inv .lost) l l-fits,
-    asked .cell-few,
+    row-room (input asked) (input asked .prime) (positive asked) (here asked inv) (inv .pivots) spent (inv .lost) l l-fits,
+    input asked .cell-few,
   )
 
   pub advance-asked : AdvanceAsked p reciprocal n m w l k (getD degrees k 0 + spent - leastDegree w n degree₀) r u v spare indices degrees
   advance-asked =
       let at = here asked inv in
       let matrices = holding-matrices (at .holding) in
-      let plan = plan-asked n m w (asked .columns) r (size asked inv) indices degrees (inv .pivots)
-      (asked .ready) (asked .prime) (matrices .r-residues) (index-room asked inv) (degree-room asked inv) reducing in
+      let plan = plan-asked n m w (input asked .columns) r (size asked inv) indices degrees (inv .pivots)
+      (input asked .ready) (input asked .prime) (matrices .r-residues) (index-room asked inv) (degree-room asked inv) reducing in
       record {
         plan = plan;
-        columns = asked .columns;
-        l-short = list-short n m w (asked .columns) r (size asked inv) indices degrees (inv .pivots) l l-fits;
+        columns = input asked .columns;
+        l-short = list-short n m w (input asked .columns) r (size asked inv) indices degrees (inv .pivots) l l-fits;
         move = record {
           matrices = matrices;
           l-fits = l-fits;
           k-fits = k-fits;
           differ = reducing .apart;
-          r-short = list-short n m w (asked .columns) r (size asked inv) indices degrees (inv .pivots) k k-fits;
-          u-short = row-short (input asked) (asked .prime) (positive asked) at (inv .pivots) spent (inv .lost) k _ (leastDegree w n degree₀) k-fits
+          r-short = list-short n m w (input asked .columns) r (size asked inv) indices degrees (inv .pivots) k k-fits;
+          u-short = row-short (input asked) (input asked .prime) (positive asked) at (inv .pivots) spent (inv .lost) k _ (leastDegree w n degree₀) k-fits
               (clash-second (reducing .clash)) (λ i li. omega (arith, least-below w n degree₀ i li, first-degrees asked i li)) (omega (arith, reach-fits));
-          v-short = column-short (input asked) (asked .prime) (positive asked) at (inv .pivots) l l-fits;
+          v-short = column-short (input asked) (input asked .prime) (positive asked) at (inv .pivots) l l-fits;
           r-room = omega (arith, reach-fits, plan .l-pivot .leading .height-most);
           u-room = omega (arith, reach-fits);
           v-room = omega (arith, reach-fits, plan .l-pivot .leading .height-most, plan .k-pivot .leading .height);
@@ -169,13 +170,13 @@ module _ {p reciprocal n m w : ℕ} {a u₀ v₀ spare₀ index₀ degree₀ r u
     -- the height of row l has not grown
     pub lower : getD degrees′ l 0 ≤ getD degrees l 0
     lower =
-        let h = height-under n m w (asked .columns) r′ (size-after p n m w _ _ l k r r′ (size asked inv) l-fits (d .moved .subtracted .r-move)) l (getD degrees l 0) l-fits
+        let h = height-under n m w (input asked .columns) r′ (size-after p n m w _ _ l k r r′ (size asked inv) l-fits (d .moved .subtracted .r-move)) l (getD degrees l 0) l-fits
         (renew-asked _ _ _ _ _ _ _ _ _ (advance-asked .plan) _ _ _ (d .moved .divided) r′ (d .moved .subtracted .r-move)
-        (asked .columns) (advance-asked .l-short) (advance-asked .move .r-short) .short) in
+        (input asked .columns) (advance-asked .l-short) (advance-asked .move .r-short) .short) in
         omega (arith, after .row l l-fits .degree-is)
 
     pub falls : total n (valuesOf m w r′) < total n (valuesOf m w r)
-    falls = loop-falls (input asked) (asked .prime) (positive asked) (here asked inv) (inv .pivots) (next .0) (next .1) (d .moved)
+    falls = loop-falls (input asked) (input asked .prime) (positive asked) (here asked inv) (inv .pivots) (next .0) (next .1) (d .moved)
 
     others : (i : ℕ) → i ≢ l → getD degrees′ i 0 ≡ getD degrees i 0
     others i ne = ap (λ (t : List ℕ). getD t i 0) (d .renewed .degrees-are) ∙ getD-set-other degrees l i _ 0 ne

@@ -1,3 +1,5 @@
+pub mod Asked
 pub mod Reduced
-pub mod Running
+pub mod Repeating
 pub mod Listed
+pub mod SteppedOnce

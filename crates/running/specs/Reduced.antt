@@ -8,7 +8,9 @@ use Rattle.buffers.specs.Held.{matrixOf}
 use Rattle.buffers.proofs.Place.{by-rows}
 use Rattle.reduction.specs.Step.{Carried, begin}
 use Rattle.reduction.specs.Run.{Runs}
+use Rattle.pivots.specs.Pivot.{valueOf, rowOf}
 use Rattle.stepping.specs.Holding.{Holding}
+use Rattle.running.specs.Listed.{IsListed}
 
 -- "The whole reduction is this step repeated until none applies. Its count is the number of steps so defined":
 -- from the matrix in a, `count` steps lead to what stands in r, u and v, where no step applies
@@ -20,3 +22,8 @@ pub record ReducedBy (p : ℕ) (P : Prime p) (some : 0 < p) (n m w count : ℕ) 
 -- whatever proof of primality is in hand
 pub record Reduced (p n m w count : ℕ) (a r u v : List ℕ) : Type 0 where
   pub by : (P : Prime p) (some : 0 < p) → ReducedBy p P some n m w count a r u v
+
+-- and the answer has the count, the rank and the rows
+pub record IsDone (p n m w : ℕ) (a r u v : List ℕ) (rank count rows : ℕ) : Type 0 where
+  pub reduced : Reduced p n m w count a r u v
+  pub listed : IsListed n (λ i. valueOf m w (rowOf m w r i)) rank rows

@@ -1,44 +1,60 @@
-// The whole reduction on buffers, "this step repeated until none applies", and the rows that it leaves other than zero.
-ghost use Rattle.running.specs.Running.{RunAsked, Ran};
+// The reduction on buffers, with room of its own: a single step, and "this step repeated until none applies".
+ghost use Rattle.running.specs.Asked.{InputAsked, StartAsked};
+ghost use Rattle.running.specs.Reduced.{IsDone};
+ghost use Rattle.running.specs.SteppedOnce.{SteppedOnce};
 use choosing::Next;
-use pivots::PivotDegree;
 use pivots::pivot;
 use residues::Modulus;
 
 mod listing;
+mod steps;
 
-pub use listing::Listed;
-pub use listing::list;
+// How many rows are not zero and which they are, as in `listing`, and how many steps led there.
+pub struct Reached {
+    pub rank: usize,
+    pub count: u64,
+    pub rows: usize,
+}
 
-// Steps until none applies, and their number. The pivots of all rows are kept; a step finds those of its row l anew.
-// `spent` is what the pivot degrees have lost together since the start: no cell of row k of U has a degree above that of
-// row k and `spent`, less the least pivot degree of the input.
+// The whole reduction of the matrix in r.
 pub fn run(
     r: &mut [u16],
     u: &mut [u16],
     v: &mut [u16],
-    spare: &mut [u16],
-    index: &mut [usize],
-    degree: &mut [usize],
     n: usize,
     m: usize,
     w: usize,
     md: Modulus,
-) -> u64
-    requires { ⌜ RunAsked (md .p) (md .reciprocal) n m w (now r) (now u) (now v) (now spare) (now index) (now degree) ⌝ }
-    ensures { λ count. ⌜ Ran (md .p) n m w count (now (r .entry)) (now (r .exit)) (now (u .exit)) (now (v .exit)) (now (index .exit)) ⌝ }
+) -> Reached
+    requires { ⌜ StartAsked (md .p) (md .reciprocal) n m w (now r) (now u) (now v) ⌝ }
+    ensures { λ x. ⌜ IsDone (md .p) n m w (now (r .entry)) (now (r .exit)) (now (u .exit)) (now (v .exit)) (x .rank) (x .count) (x .rows) ⌝ }
 {
-    let least = pivot::least(degree, n, w);
-    let mut count: u64 = 0;
-    let mut spent: usize = 0;
-    loop {
-        let Next::Rows { l, k } = choosing::next_rows(index, degree, n) else {
-            return count;
-        };
-        let before = PivotDegree(degree[l]).or_zero();
-        let reach = degree[k] + spent - least;
-        stepping::advance(r, u, v, spare, index, degree, l, k, reach, n, m, w, md);
-        spent += before - PivotDegree(degree[l]).or_zero();
-        count += 1;
+    let mut spare = scratch::room();
+    let mut index = scratch::eight();
+    let mut degree = scratch::eight();
+    pivot::all(r, &mut index, &mut degree, n, m, w);
+    let count = steps::repeat(r, u, v, &mut spare, &mut index, &mut degree, n, m, w, md);
+    let x = listing::list(&index, n);
+    Reached {
+        rank: x.rank,
+        count,
+        rows: x.rows,
     }
+}
+
+// One step on the matrix in r, and 1; or 0 where the form is reached.
+pub fn once(r: &mut [u16], n: usize, m: usize, w: usize, md: Modulus) -> u64
+    requires { ⌜ InputAsked (md .p) (md .reciprocal) n m w (now r) ⌝ }
+    ensures { λ count. ⌜ SteppedOnce (md .p) n m w count (now (r .entry)) (now (r .exit)) ⌝ }
+{
+    let mut spare = scratch::room();
+    let mut index = scratch::eight();
+    let mut degree = scratch::eight();
+    pivot::all(r, &mut index, &mut degree, n, m, w);
+    let Next::Rows { l, k } = choosing::next_rows(&index, &degree, n) else {
+        return 0;
+    };
+    let x = stepping::plan(r, &index, &degree, l, k, m, w, md);
+    rows::add_row(r, &mut spare, l, k, m, w, degree[k], x.f, x.e, md);
+    1
 }

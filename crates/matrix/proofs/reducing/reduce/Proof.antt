@@ -46,8 +46,8 @@ write-identity-requires-2 c κs = v-square (known (c .before .before .before .be
 of-requires : tie.Need-of-requires
 of-requires c κs = in-range (order (known (c .before .before .before .before .before .before .before .before .before .before .before .before .before .before .before)) .numbers .modulus)
 
-work-requires : tie.Need-work-requires
-work-requires c κs = start-asked (known (c .before .before .before .before .before .before .before .before .before .before .before .before .before .before .before .before)) (c .of .ensures .0) (c .of .ensures .1) (c .before .before .before .before .before .before .before .before .before .before .before .before .before .before .copy .ensures) (c .before .before .before .before .before .before .before .before .before .before .write-identity .ensures) (c .before .before .before .before .before .before .write-identity2 .ensures)
+run-requires : tie.Need-run-requires
+run-requires c κs = start-asked (known (c .before .before .before .before .before .before .before .before .before .before .before .before .before .before .before .before)) (c .of .ensures .0) (c .of .ensures .1) (c .before .before .before .before .before .before .before .before .before .before .before .before .before .before .copy .ensures) (c .before .before .before .before .before .before .before .before .before .before .write-identity .ensures) (c .before .before .before .before .before .before .write-identity2 .ensures)
 
 same-length : tie.Need-same-length
 same-length c = search needs
@@ -61,7 +61,7 @@ same-length-3 c = search needs
 returns-2 : tie.Need-returns-2
 returns-2 c =
     let made = c .before .before .before .before .before .before .before in
-    answered (known (made .before .before .before .before .before .before .before .before .before .before .before .before .before .before .before .before)) _ _ _ _ _ (c .before .before .before .before .before .before .work .result) (made .of .ensures .0) (made .before .before .before .before .before .before .before .before .before .before .before .before .before .before .copy .ensures) (c .before .before .before .before .before .before .work .ensures)
+    answered (known (made .before .before .before .before .before .before .before .before .before .before .before .before .before .before .before .before)) (made .of .ensures .0) (made .before .before .before .before .before .before .before .before .before .before .before .before .before .before .copy .ensures) (c .before .before .before .before .before .before .run .ensures)
 
 pub reduce-spec : {M : Type 1} → statement M
 reduce-spec =
@@ -77,7 +77,7 @@ reduce-spec =
     write-identity-requires
     write-identity-requires-2
     of-requires
-    work-requires
+    run-requires
     same-length
     same-length-2
     same-length-3

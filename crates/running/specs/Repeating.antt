@@ -3,28 +3,14 @@ use mathlib.Core.Path.{_≡_}
 use mathlib.Core.List.{List}
 use Prim.Native.Nat.{ℕ, _*_, _≤_, _<_}
 use lib.ListN.{length, getD}
-use Rattle.algebra.specs.Prime.{Prime}
-use Rattle.residues.specs.Modulus.{Ready}
-use Rattle.poly.specs.Polynomial.{Coefficients}
-use Rattle.buffers.specs.Diagonal.{Diagonal}
 use Rattle.reduction.specs.Pivot.{index}
 use Rattle.pivots.specs.Pivot.{valueOf, rowOf, Pivots}
+use Rattle.running.specs.Asked.{StartAsked}
 use Rattle.running.specs.Reduced.{Reduced}
 
 -- a matrix in r with its pivots, U and V the identity, and room for a row and for a cell of U
-pub record RunAsked (p reciprocal n m w : ℕ) (r u v spare indices degrees : List ℕ) : Type 0 where
-  pub ready : Ready p reciprocal
-  pub prime : Prime p
-  pub columns : 0 < m
-  pub columns-most : m ≤ 8
-  pub places : 0 < w
-  pub rows-most : n ≤ 8
-  pub cell-few : n * w ≤ 512
-  pub size : length r ≡ n * (m * w)
-  pub small : n * (m * w) ≤ 4096
-  pub residues : Coefficients p r
-  pub u-one : Diagonal n (n * w) u
-  pub v-one : Diagonal n w v
+pub record RepeatAsked (p reciprocal n m w : ℕ) (r u v spare indices degrees : List ℕ) : Type 0 where
+  pub start : StartAsked p reciprocal n m w r u v
   pub pivots : Pivots n m (λ i. valueOf m w (rowOf m w r i)) indices degrees
   pub index-room : n ≤ length indices
   pub degree-room : n ≤ length degrees
@@ -32,6 +18,6 @@ pub record RunAsked (p reciprocal n m w : ℕ) (r u v spare indices degrees : Li
   pub cell-room : n * w ≤ length spare
 
 -- the matrix a is reduced, and `indices` has the pivot indices of the result
-pub record Ran (p n m w count : ℕ) (a r u v indices : List ℕ) : Type 0 where
+pub record Repeated (p n m w count : ℕ) (a r u v indices : List ℕ) : Type 0 where
   pub reduced : Reduced p n m w count a r u v
   pub indices-are : (i : ℕ) → i < n → getD indices i 0 ≡ index m (valueOf m w (rowOf m w r i))

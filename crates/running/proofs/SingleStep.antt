@@ -2,7 +2,7 @@
 use mathlib.Core.Path.{_≡_, refl, sym, ap, subst, _∙_}
 use mathlib.Core.Logic.{inl, inr}
 use mathlib.Core.List.{List}
-use Prim.Native.Nat.{ℕ, _≤_, _<_}
+use Prim.Native.Nat.{ℕ, _<_}
 use native.Mathlib.Omega.{arith}
 use lib.ListN.{length, getD}
 use Rattle.algebra.specs.Field.{Field}
@@ -22,17 +22,18 @@ use Rattle.reduction.specs.Run.{step}
 use Rattle.reduction.proofs.Pair.{pair-reducing, no-pair-same, pair-same}
 use Rattle.reduction.proofs.SingleStep.{step-pair, step-none}
 use Rattle.choosing.specs.Pair.{NextAsked, IsNextOf}
-use Rattle.pivots.specs.Pivot.{valuesOf, Pivots}
+use Rattle.pivots.specs.Pivot.{valuesOf}
 use Rattle.choosing.specs.declared.pair.Next.the-variants.{Rows}
 use Rattle.stepping.specs.Move.{Factor}
 use Rattle.stepping.specs.Asked.{PlanAsked}
-use Rattle.matrix.specs.Asked.{InputAsked}
-use Rattle.matrix.specs.Single.{Stepped}
+use Rattle.running.specs.Asked.{InputAsked}
+use Rattle.running.specs.SteppedOnce.{SteppedOnce}
 use Rattle.stepping.proofs.Value.{value-held}
 use Rattle.stepping.proofs.Moving.{step-held}
 use Rattle.stepping.proofs.Following.{row-asked}
 use Rattle.choosing.proofs.Next.{pivots-asked}
 use Rattle.stepping.proofs.RowsOf.{list-short, plan-asked}
+use Rattle.running.proofs.Found.{Found}
 
 module _ {p reciprocal n m w : ℕ} {r : List ℕ} (asked : InputAsked p reciprocal n m w r) where
   -- the matrix that r holds
@@ -58,7 +59,7 @@ module _ {p reciprocal n m w : ℕ} {r : List ℕ} (asked : InputAsked p recipro
     step-rows q e = step-pair K n m w A q ∙ ap (λ (x : ℕ × ℕ). reduce-row K m w (x .0) (x .1) A) e
 
   -- where no step applies, r is left as it is
-  pub stepped-none : NoPair n m (valuesOf m w r) → Stepped p n m w 0 r r
+  pub stepped-none : NoPair n m (valuesOf m w r) → SteppedOnce p n m w 0 r r
   stepped-none h = record {
     by = λ P some.
         let none = no-pair-same n m _ _ (agree P some) h in
@@ -68,14 +69,9 @@ module _ {p reciprocal n m w : ℕ} {r : List ℕ} (asked : InputAsked p recipro
         };
   }
 
-  -- eight numbers are enough for the rows
-  eight-room : (s : ℕ) → s ≡ 8 → n ≤ s
-  eight-room s e = omega (arith, asked .rows-most)
-
   -- what the choice of the rows asks
-  pub choice-asked : {indices degrees : List ℕ} → Pivots n m (valuesOf m w r) indices degrees → length indices ≡ 8 → length degrees ≡ 8 → NextAsked n indices degrees
-  choice-asked {indices} {degrees} pivots x y =
-      pivots-asked n m (valuesOf m w r) indices degrees pivots (asked .columns) (asked .columns-most) (eight-room _ x) (eight-room _ y)
+  pub choice-asked : {indices degrees : List ℕ} → Found n m (valuesOf m w r) indices degrees → NextAsked n indices degrees
+  choice-asked found = pivots-asked n m (valuesOf m w r) _ _ (found .pivots) (asked .columns) (asked .columns-most) (found .index-room) (found .degree-room)
 
   -- rows l and k are to be reduced
   module _ {l k : ℕ} (next : IsNextOf n m (valuesOf m w r) (Rows l k)) where
@@ -86,25 +82,26 @@ module _ {p reciprocal n m w : ℕ} {r : List ℕ} (asked : InputAsked p recipro
     pub k-room : k < 8
     k-room = omega (arith, reducing .k-fits, asked .rows-most)
 
-    module _ {indices degrees : List ℕ} (pivots : Pivots n m (valuesOf m w r) indices degrees) where
+    module _ {indices degrees : List ℕ} (found : Found n m (valuesOf m w r) indices degrees) where
       -- what the plan asks
-      pub planning-asked : length indices ≡ 8 → length degrees ≡ 8 → PlanAsked p reciprocal m w l k r indices degrees
-      planning-asked x y = plan-asked n m w (asked .columns) r (asked .size) indices degrees pivots (asked .ready) (asked .prime) (asked .residues) (eight-room _ x) (eight-room _ y) reducing
+      pub planning-asked : PlanAsked p reciprocal m w l k r indices degrees
+      planning-asked = plan-asked n m w (asked .columns) r (asked .size) indices degrees (found .pivots) (asked .ready) (asked .prime) (asked .residues)
+          (found .index-room) (found .degree-room) reducing
 
       module _ {e c f : ℕ} (g : Factor p m w l k r indices degrees e c f) where
         -- what the subtraction asks
-        pub subtraction-asked : length indices ≡ 8 → length degrees ≡ 8 → {spare : List ℕ} → length spare ≡ 512 → RowsInBuffer p reciprocal f e m w (getD degrees k 0) l k r spare
-        subtraction-asked x y room = row-asked p reciprocal m w l k r indices degrees (planning-asked x y) e c f g
-            (list-short n m w (asked .columns) r (asked .size) indices degrees pivots k (reducing .k-fits)) (omega (arith, asked .row-few))
+        pub subtraction-asked : {spare : List ℕ} → length spare ≡ 512 → RowsInBuffer p reciprocal f e m w (getD degrees k 0) l k r spare
+        subtraction-asked room = row-asked p reciprocal m w l k r indices degrees planning-asked e c f g
+            (list-short n m w (asked .columns) r (asked .size) indices degrees (found .pivots) k (reducing .k-fits)) (omega (arith, asked .row-few))
 
         -- the subtraction is the step
-        pub stepped-pair : {r′ : List ℕ} → RowAdded p m w f e l k r r′ → Stepped p n m w 1 r r′
+        pub stepped-pair : {r′ : List ℕ} → RowAdded p m w f e l k r r′ → SteppedOnce p n m w 1 r r′
         stepped-pair {r′} added = record {
           by = λ P some.
               let (q, q-is) = pair-same n m _ _ (agree P some) (next .0) (l, k) (next .1) in
               record {
                 held = subst (Held (by-rows n m w) p r′) (sym (step-rows P some q q-is))
-                    (step-held p P n m w (asked .columns) r indices degrees (A P some) (first P some) pivots l k (pair-reducing q q-is) g added);
+                    (step-held p P n m w (asked .columns) r indices degrees (A P some) (first P some) (found .pivots) l k (pair-reducing q q-is) g added);
                 counted = inr (refl, q);
               };
         }

@@ -1,0 +1,2 @@
+pub mod Popov
+pub mod Moves

@@ -1,0 +1,128 @@
+use mathlib.Core.Path.{sym}
+use native.Mathlib.Omega.{arith}
+use denote.Ref.{now}
+use Rattle.choosing.specs.Pair.{IsNextOf}
+use Rattle.pivots.specs.Pivot.{valuesOf}
+use Rattle.choosing.specs.declared.pair.Next.the-variants.{Rows}
+use Rattle.choosing.proofs.Next.{next-is}
+use Rattle.running.proofs.Found.{Found, found}
+use Rattle.running.proofs.SingleStep.{stepped-none, choice-asked, k-room, planning-asked, subtraction-asked, stepped-pair}
+use borrow.Author.Needs.{needs}
+use Rattle.running.proofs.once.Statement.{statement}
+use Rattle.running.proofs.once.Tie as tie
+
+-- the pivots
+at-hand : (c : tie.After-all) → let args = c .before .before .before .before .before .before .before .before .args in
+    Found (args .n) (args .m) (valuesOf (args .m) (args .w) (now (args .r))) (c .all .last .1 .0) (c .all .last .1 .1 .0)
+at-hand c =
+    let made = c .before .before .before .before in
+    found (c .before .before .before .before .before .before .before .before .pre .rows-most) (made .before .eight .ensures .0) (made .eight2 .ensures .0) (c .all .kept .1 .0) (c .all .kept .1 .1 .0) (c .all .ensures)
+
+-- the rows that the step is made on
+next : (c : tie.After-l) → let args = c .before .before .before .before .before .before .before .before .before .before .before .before .before .before .before .args in
+    IsNextOf (args .n) (args .m) (valuesOf (args .m) (args .w) (now (args .r))) (Rows (c .l .given .0 .0) (c .l .given .0 .1 .0))
+next c = next-is _ _ _ _ _ (c .before .before .before .before .before .before .before .all .ensures) _ _ (c .before .before .next-rows .ensures) (c .l .given .1)
+
+room-requires : tie.Need-room-requires
+room-requires c κs = search needs
+
+eight-requires : tie.Need-eight-requires
+eight-requires c κs = search needs
+
+eight-requires-2 : tie.Need-eight-requires-2
+eight-requires-2 c κs = search needs
+
+slice-aggregate-all : tie.Need-slice-aggregate-all
+slice-aggregate-all c = search needs
+
+slice-aggregate-all-2 : tie.Need-slice-aggregate-all-2
+slice-aggregate-all-2 c = search needs
+
+all-requires : tie.Need-all-requires
+all-requires c κs = search needs
+
+slice-aggregate-next-rows : tie.Need-slice-aggregate-next-rows
+slice-aggregate-next-rows c = search needs
+
+slice-aggregate-next-rows-2 : tie.Need-slice-aggregate-next-rows-2
+slice-aggregate-next-rows-2 c = search needs
+
+next-rows-requires : tie.Need-next-rows-requires
+next-rows-requires c κs = let all = c .before .before .before .before in choice-asked (all .before .before .before .before .before .before .before .before .pre) (at-hand all)
+
+enum-known-l : tie.Need-enum-known-l
+enum-known-l c = search needs
+
+enum-told : tie.Need-enum-told
+enum-told c = search needs
+
+same-length : tie.Need-same-length
+same-length c = search needs
+
+returns : tie.Need-returns
+returns c =
+    let found = c .before .before .before .before .before .before .before in
+    stepped-none (found .before .before .before .before .before .before .before .before .pre) (next-is _ _ _ _ _ (found .all .ensures) _ _ (c .before .before .next-rows .ensures) (c .enum-told .given .1))
+
+slice-aggregate-plan : tie.Need-slice-aggregate-plan
+slice-aggregate-plan c = search needs
+
+slice-aggregate-plan-2 : tie.Need-slice-aggregate-plan-2
+slice-aggregate-plan-2 c = search needs
+
+plan-requires : tie.Need-plan-requires
+plan-requires c κs =
+    let chosen = c .before .before .before .before in
+    let all = chosen .before .before .before .before .before .before .before in
+    planning-asked (all .before .before .before .before .before .before .before .before .pre) (next chosen) (at-hand all)
+
+slice-aggregate-add-row : tie.Need-slice-aggregate-add-row
+slice-aggregate-add-row c = sym (c .before .before .before .before .before .before .before .before .before .before .before .before .before .before .before .before .before .before .before .before .room .ensures .0)
+
+mul-add-row : tie.Need-mul-add-row
+mul-add-row c = let chosen = c .before .before .before .before .before .before .before in omega (arith, k-room (chosen .before .before .before .before .before .before .before .before .before .before .before .before .before .before .before .pre) (next chosen))
+
+array-read-add-row : tie.Need-array-read-add-row
+array-read-add-row c = let chosen = c .before .before .before .before .before .before .before in omega (arith, k-room (chosen .before .before .before .before .before .before .before .before .before .before .before .before .before .before .before .pre) (next chosen))
+
+add-row-requires : tie.Need-add-row-requires
+add-row-requires c κs =
+    let chosen = c .before .before .before .before .before .before .before in
+    let all = chosen .before .before .before .before .before .before .before in
+    subtraction-asked (all .before .before .before .before .before .before .before .before .pre) (next chosen) (at-hand all) (c .before .before .plan .ensures) (all .before .before .before .before .before .before .room .ensures .0)
+
+same-length-2 : tie.Need-same-length-2
+same-length-2 c = search needs
+
+returns-2 : tie.Need-returns-2
+returns-2 c =
+    let chosen = c .before .before .before .before .before .before .before .before .before .before .before in
+    let all = chosen .before .before .before .before .before .before .before in
+    stepped-pair (all .before .before .before .before .before .before .before .before .pre) (next chosen) (at-hand all) (c .before .before .before .before .before .before .plan .ensures) (c .before .before .before .add-row .ensures)
+
+pub once-spec : {M : Type 1} → statement M
+once-spec =
+    tie.close
+    (tie.spec
+    room-requires
+    eight-requires
+    eight-requires-2
+    slice-aggregate-all
+    slice-aggregate-all-2
+    all-requires
+    slice-aggregate-next-rows
+    slice-aggregate-next-rows-2
+    next-rows-requires
+    enum-known-l
+    enum-told
+    same-length
+    returns
+    slice-aggregate-plan
+    slice-aggregate-plan-2
+    plan-requires
+    slice-aggregate-add-row
+    mul-add-row
+    array-read-add-row
+    add-row-requires
+    same-length-2
+    returns-2)
