@@ -9,7 +9,7 @@ use crate::popov;
 use crate::reduce;
 use crate::refuse::{self, Call, Service};
 use crate::sample::{self, Sample};
-use moorbesen::Refusal;
+use moorbesen::{raw, Refusal};
 
 /// An answer by its numbers, for all services; what a service does not answer
 /// is 0.
@@ -35,15 +35,56 @@ fn said<T>(answer: Result<T, Refusal>, done: impl Fn(T) -> Said) -> Said {
     )
 }
 
+impl From<raw::Reply> for Said {
+    fn from(reply: raw::Reply) -> Said {
+        Said {
+            number: reply.number,
+            place: reply.place,
+            rank: reply.rank,
+            first_count: reply.count,
+            rows: reply.rows,
+            ..Said::default()
+        }
+    }
+}
+
+impl From<raw::PopovReply> for Said {
+    fn from(reply: raw::PopovReply) -> Said {
+        Said {
+            number: reply.number,
+            place: reply.place,
+            rank: reply.rank,
+            first_count: reply.first,
+            second_count: reply.second,
+            ..Said::default()
+        }
+    }
+}
+
+impl From<raw::DeterminantReply> for Said {
+    fn from(reply: raw::DeterminantReply) -> Said {
+        Said {
+            number: reply.number,
+            place: reply.place,
+            ..Said::default()
+        }
+    }
+}
+
 /// The answer of a call that is done, and what the buffers after the input hold
 /// then.
 type Done = (Said, Vec<Vec<u16>>);
 
+/// Calls a proved function with the input and the buffers after it.
+type Calling = fn(&Call, &[u16], &mut [Buffer]) -> Said;
+
 /// The proved function of a service, and what this program knows of that service.
 struct Function {
     service: Service,
-    /// Calls the proved function with the input and the buffers after it.
-    call: fn(&Call, &[u16], &mut [Buffer]) -> Said,
+    /// Returns an answer or a refusal.
+    call: Calling,
+    /// Returns the library's own reply, which has all numbers in a refusal too.
+    raw: Calling,
     /// For p, d and a matrix that are not refused.
     done: fn(u64, usize, &Matrix) -> Done,
     /// What has to hold of a sample besides equal answers for its matrix.
@@ -54,24 +95,28 @@ const FUNCTIONS: [Function; 4] = [
     Function {
         service: Service::Reduction,
         call: call_reduce,
+        raw: raw_reduce,
         done: reduction,
         further: reduction_multiplied_out,
     },
     Function {
         service: Service::SingleStep,
         call: call_step,
+        raw: raw_step,
         done: single_step,
         further: later_steps_agree,
     },
     Function {
         service: Service::PopovForm,
         call: call_popov,
+        raw: raw_popov,
         done: popov_form,
         further: |numbered| popov_form_multiplied_out(numbered) & pair_agrees(numbered),
     },
     Function {
         service: Service::Determinant,
         call: call_determinant,
+        raw: raw_determinant,
         done: |p, d, a| (Said::default(), vec![det::determinant_places(p, d, a)]),
         further: determinant_at_values,
     },
@@ -99,6 +144,12 @@ fn call_reduce(call: &Call, input: &[u16], buffers: &mut [Buffer]) -> Said {
     })
 }
 
+fn raw_reduce(call: &Call, input: &[u16], buffers: &mut [Buffer]) -> Said {
+    let (n, m, d) = shape(call);
+    let [r, u, v] = lent(buffers);
+    raw::reduce(call.p, n, m, d, input, r, u, v).into()
+}
+
 fn call_step(call: &Call, input: &[u16], buffers: &mut [Buffer]) -> Said {
     let (n, m, d) = shape(call);
     let [r] = lent(buffers);
@@ -107,6 +158,12 @@ fn call_step(call: &Call, input: &[u16], buffers: &mut [Buffer]) -> Said {
         first_count,
         ..Said::default()
     })
+}
+
+fn raw_step(call: &Call, input: &[u16], buffers: &mut [Buffer]) -> Said {
+    let (n, m, d) = shape(call);
+    let [r] = lent(buffers);
+    raw::step(call.p, n, m, d, input, r).into()
 }
 
 fn call_popov(call: &Call, input: &[u16], buffers: &mut [Buffer]) -> Said {
@@ -121,11 +178,23 @@ fn call_popov(call: &Call, input: &[u16], buffers: &mut [Buffer]) -> Said {
     })
 }
 
+fn raw_popov(call: &Call, input: &[u16], buffers: &mut [Buffer]) -> Said {
+    let (n, m, d) = shape(call);
+    let [r, u, v] = lent(buffers);
+    raw::popov(call.p, n, m, d, input, r, u, v).into()
+}
+
 fn call_determinant(call: &Call, input: &[u16], buffers: &mut [Buffer]) -> Said {
     let (n, m, d) = shape(call);
     let [r] = lent(buffers);
     let answer = moorbesen::determinant(call.p, n, m, d, input, r);
     said(answer, |()| Said::default())
+}
+
+fn raw_determinant(call: &Call, input: &[u16], buffers: &mut [Buffer]) -> Said {
+    let (n, m, d) = shape(call);
+    let [r] = lent(buffers);
+    raw::determinant(call.p, n, m, d, input, r).into()
 }
 
 /// The contents of the buffers, lent to a call that takes so many.
@@ -232,10 +301,10 @@ struct Outcome {
 }
 
 /// Calls the proved program.
-fn outcome(call: &Call) -> Outcome {
+fn outcome(calling: Calling, call: &Call) -> Outcome {
     let input = Buffer::holding(&call.input);
     let mut after: Vec<Buffer> = call.lengths.iter().map(|&t| Buffer::filled(t)).collect();
-    let said = (function(call.service).call)(call, input.content(), &mut after);
+    let said = calling(call, input.content(), &mut after);
     Outcome { said, input, after }
 }
 
@@ -289,9 +358,14 @@ fn none(label: &str, faults: Faults) -> bool {
     faults.is_empty()
 }
 
-/// Compares one call, prints what differs, and returns whether nothing does.
+/// Makes one call both ways, prints what differs, and returns whether nothing
+/// does.
 fn agrees(label: &str, call: &Call) -> bool {
-    let same = none(label, differences(&outcome(call), &wanted(call)));
+    let wanted = wanted(call);
+    let function = function(call.service);
+    let answered = differences(&outcome(function.call, call), &wanted);
+    let replied = differences(&outcome(function.raw, call), &wanted);
+    let same = none(label, answered) & none(&format!("{label}, raw reply"), replied);
     if !same {
         let &Call { p, n, m, d, .. } = call;
         println!("  {:?}, p={p} n={n} m={m} d={d}", call.service);
@@ -399,5 +473,6 @@ fn pair_agrees(numbered: &Numbered) -> bool {
 /// The proved program's result buffer, read as a matrix.
 fn result(call: &Call) -> Matrix {
     let (n, m, w) = (call.n as usize, call.m as usize, call.d as usize + 1);
-    Matrix::from_places(n, m, w, outcome(call).after[0].content())
+    let found = outcome(function(call.service).call, call);
+    Matrix::from_places(n, m, w, found.after[0].content())
 }

@@ -7,8 +7,10 @@
 //!
 //! Every call ends with an answer, and no call panics. A call that is refused leaves every buffer as it was. A call
 //! that is done writes every place of every buffer that it is lent to write, whatever stood there before.
+//!
+//! The functions here return a `Result`. Those of [`raw`] return the library's own reply, with every number that it has.
 
-mod raw;
+pub mod raw;
 
 use std::fmt;
 
@@ -96,12 +98,6 @@ fn answer<T>(number: usize, place: usize, done: T) -> Result<T, Refusal> {
     }
 }
 
-/// A slice as C takes it. In each call below every pointer is good for its length, and no slice that is written
-/// overlaps another, for the slices are borrowed until the call ends.
-fn lent(slice: &mut [u16]) -> (*mut u16, usize) {
-    (slice.as_mut_ptr(), slice.len())
-}
-
 /// Writes R, the weak Popov form of A that the steps reach in their fixed order, and the matrices U and V with
 /// U·A = R, V·R = A and U·V = V·U = identity.
 ///
@@ -117,8 +113,7 @@ pub fn reduce(
     u: &mut [u16],
     v: &mut [u16],
 ) -> Result<Reduction, Refusal> {
-    let ((r, r_len), (u, u_len), (v, v_len)) = (lent(r), lent(u), lent(v));
-    let reply = unsafe { raw::moorbesen_reduce(p, n, m, d, a.as_ptr(), a.len(), r, r_len, u, u_len, v, v_len) };
+    let reply = raw::reduce(p, n, m, d, a, r, u, v);
     let done = Reduction {
         rank: reply.rank,
         count: reply.count,
@@ -132,8 +127,7 @@ pub fn reduce(
 ///
 /// `a` and `r` have [`matrix_places`].
 pub fn step(p: u32, n: usize, m: usize, d: usize, a: &[u16], r: &mut [u16]) -> Result<u64, Refusal> {
-    let (r, r_len) = lent(r);
-    let reply = unsafe { raw::moorbesen_step(p, n, m, d, a.as_ptr(), a.len(), r, r_len) };
+    let reply = raw::step(p, n, m, d, a, r);
     answer(reply.number, reply.place, reply.count)
 }
 
@@ -153,8 +147,7 @@ pub fn popov(
     u: &mut [u16],
     v: &mut [u16],
 ) -> Result<Popov, Refusal> {
-    let ((r, r_len), (u, u_len), (v, v_len)) = (lent(r), lent(u), lent(v));
-    let reply = unsafe { raw::moorbesen_popov(p, n, m, d, a.as_ptr(), a.len(), r, r_len, u, u_len, v, v_len) };
+    let reply = raw::popov(p, n, m, d, a, r, u, v);
     let done = Popov {
         rank: reply.rank,
         first: reply.first,
@@ -167,7 +160,6 @@ pub fn popov(
 ///
 /// `a` has [`matrix_places`], `r` has [`determinant_places`].
 pub fn determinant(p: u32, n: usize, m: usize, d: usize, a: &[u16], r: &mut [u16]) -> Result<(), Refusal> {
-    let (r, r_len) = lent(r);
-    let reply = unsafe { raw::moorbesen_determinant(p, n, m, d, a.as_ptr(), a.len(), r, r_len) };
+    let reply = raw::determinant(p, n, m, d, a, r);
     answer(reply.number, reply.place, ())
 }

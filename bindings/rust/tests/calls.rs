@@ -1,7 +1,7 @@
-//! Makes the calls of tests/bindings/calls.txt through the safe functions. Each answer has its number and place. In a
-//! refusal no buffer is touched; else every place is written.
+//! Makes the calls of tests/bindings/calls.txt, each by the function that returns a `Result` and by that of `raw`. Each
+//! answer has its number and place. In a refusal all else is 0 and no buffer is touched; else every place is written.
 
-use moorbesen::{determinant, popov, reduce, step, Refusal};
+use moorbesen::{determinant, popov, raw, reduce, step, Refusal};
 
 const CALLS: &str = include_str!("../../../tests/bindings/calls.txt");
 
@@ -59,6 +59,16 @@ fn as_listed(service: char, taken: usize, call: impl Fn(u32, [usize; 3], &[u16],
     }
 }
 
+/// Whether a reply says that the call was refused: its other numbers are 0 then, and else its place is.
+fn refused(number: usize, place: usize, others: [u64; 3]) -> Result<(), Refusal> {
+    if number == 0 {
+        assert_eq!(place, 0);
+        return Ok(());
+    }
+    assert_eq!(others, [0; 3]);
+    Err(Refusal { number, place })
+}
+
 #[test]
 fn reductions() {
     as_listed('r', 3, |p, [n, m, d], a, [r, u, v]| {
@@ -81,6 +91,38 @@ fn popov_forms() {
 #[test]
 fn determinants() {
     as_listed('d', 1, |p, [n, m, d], a, [r, _, _]| determinant(p, n, m, d, a, r));
+}
+
+#[test]
+fn raw_reductions() {
+    as_listed('r', 3, |p, [n, m, d], a, [r, u, v]| {
+        let x = raw::reduce(p, n, m, d, a, r, u, v);
+        refused(x.number, x.place, [x.rank as u64, x.count, x.rows as u64])
+    });
+}
+
+#[test]
+fn raw_steps() {
+    as_listed('s', 1, |p, [n, m, d], a, [r, _, _]| {
+        let x = raw::step(p, n, m, d, a, r);
+        refused(x.number, x.place, [x.rank as u64, x.count, x.rows as u64])
+    });
+}
+
+#[test]
+fn raw_popov_forms() {
+    as_listed('p', 3, |p, [n, m, d], a, [r, u, v]| {
+        let x = raw::popov(p, n, m, d, a, r, u, v);
+        refused(x.number, x.place, [x.rank as u64, x.first, x.second])
+    });
+}
+
+#[test]
+fn raw_determinants() {
+    as_listed('d', 1, |p, [n, m, d], a, [r, _, _]| {
+        let x = raw::determinant(p, n, m, d, a, r);
+        refused(x.number, x.place, [0; 3])
+    });
 }
 
 #[test]

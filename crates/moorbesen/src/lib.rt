@@ -1,6 +1,6 @@
 // The services for programs in C: each forwards to the matrix crate and tells the answer by its numbers.
-ghost use Rattle.refusals.specs.Number.{numberOf, placeOf};
-ghost use Rattle.moorbesen.specs.Reply.{Refusing, Replied, StepReplied, PopovTells, PopovReplied, DeterminantRefusing, DeterminantReplied};
+ghost use mathlib.Core.Path.{_≡_};
+ghost use Rattle.moorbesen.specs.Reply.{replyOf, stepReplyOf, popovReplyOf, determinantReplyOf, Replied, StepReplied, PopovReplied, DeterminantReplied};
 use matrix::determining;
 use matrix::determining::DeterminantAnswer;
 use matrix::popov_form;
@@ -9,7 +9,6 @@ use matrix::reducing;
 use matrix::reducing::Answer;
 use matrix::single;
 use matrix::single::StepAnswer;
-use refusals::Refusal;
 
 // In `rows`, bit i - 1 stands for row i.
 #[repr(C)]
@@ -21,22 +20,25 @@ pub struct Reply {
     pub rows: usize,
 }
 
-fn refusal(number: usize, place: usize) -> Reply
-    ensures { λ x. ⌜ Refusing number place x ⌝ }
+fn reply_of(x: Answer) -> Reply
+    ensures { λ y. ⌜ y ≡ replyOf x ⌝ }
 {
-    Reply {
-        number,
-        place,
-        rank: 0,
-        count: 0,
-        rows: 0,
+    match x {
+        Answer::NotDone(x) => Reply {
+            number: refusals::number_of(x),
+            place: refusals::place_of(x),
+            rank: 0,
+            count: 0,
+            rows: 0,
+        },
+        Answer::Done { rank, count, rows } => Reply {
+            number: 0,
+            place: 0,
+            rank,
+            count,
+            rows,
+        },
     }
-}
-
-fn refused(x: Refusal) -> Reply
-    ensures { λ y. ⌜ Refusing (numberOf x) (placeOf x) y ⌝ }
-{
-    refusal(refusals::number_of(x), refusals::place_of(x))
 }
 
 #[no_mangle]
@@ -52,19 +54,23 @@ pub extern "C" fn moorbesen_reduce(
 ) -> Reply
     ensures { λ x. ⌜ Replied p n m d (now (a .entry)) (now (r .entry)) (now (u .entry)) (now (v .entry)) (now (r .exit)) (now (u .exit)) (now (v .exit)) x ⌝ }
 {
-    match reducing::reduce(p, n, m, d, a, r, u, v) {
-        Answer::NotDone(x) => refused(x),
-        Answer::Done { rank, count, rows } => Reply {
-            number: 0,
-            place: 0,
-            rank,
+    reply_of(reducing::reduce(p, n, m, d, a, r, u, v))
+}
+
+// A single step has no rank and no list of rows: both are 0.
+fn step_reply_of(x: StepAnswer) -> Reply
+    ensures { λ y. ⌜ y ≡ stepReplyOf x ⌝ }
+{
+    match x {
+        StepAnswer::NotDone(x) => reply_of(Answer::NotDone(x)),
+        StepAnswer::Done(count) => reply_of(Answer::Done {
+            rank: 0,
             count,
-            rows,
-        },
+            rows: 0,
+        }),
     }
 }
 
-// It has no rank and no list of rows: both are 0.
 #[no_mangle]
 pub extern "C" fn moorbesen_step(
     p: u32,
@@ -76,16 +82,7 @@ pub extern "C" fn moorbesen_step(
 ) -> Reply
     ensures { λ x. ⌜ StepReplied p n m d (now (a .entry)) (now (r .entry)) (now (r .exit)) x ⌝ }
 {
-    match single::step(p, n, m, d, a, r) {
-        StepAnswer::NotDone(x) => refused(x),
-        StepAnswer::Done(count) => Reply {
-            number: 0,
-            place: 0,
-            rank: 0,
-            count,
-            rows: 0,
-        },
-    }
+    step_reply_of(single::step(p, n, m, d, a, r))
 }
 
 // The two counts are those of the first and of the second kind.
@@ -98,15 +95,28 @@ pub struct PopovReply {
     pub second: u64,
 }
 
-fn popov_reply(number: usize, place: usize, rank: usize, first: u64, second: u64) -> PopovReply
-    ensures { λ x. ⌜ PopovTells number place rank first second x ⌝ }
+fn popov_reply_of(x: PopovAnswer) -> PopovReply
+    ensures { λ y. ⌜ y ≡ popovReplyOf x ⌝ }
 {
-    PopovReply {
-        number,
-        place,
-        rank,
-        first,
-        second,
+    match x {
+        PopovAnswer::NotDone(x) => PopovReply {
+            number: refusals::number_of(x),
+            place: refusals::place_of(x),
+            rank: 0,
+            first: 0,
+            second: 0,
+        },
+        PopovAnswer::Done {
+            rank,
+            first,
+            second,
+        } => PopovReply {
+            number: 0,
+            place: 0,
+            rank,
+            first,
+            second,
+        },
     }
 }
 
@@ -123,17 +133,7 @@ pub extern "C" fn moorbesen_popov(
 ) -> PopovReply
     ensures { λ x. ⌜ PopovReplied p n m d (now (a .entry)) (now (r .entry)) (now (u .entry)) (now (v .entry)) (now (r .exit)) (now (u .exit)) (now (v .exit)) x ⌝ }
 {
-    match popov_form::form(p, n, m, d, a, r, u, v) {
-        PopovAnswer::NotDone(x) => {
-            let y = refused(x);
-            popov_reply(y.number, y.place, 0, 0, 0)
-        }
-        PopovAnswer::Done {
-            rank,
-            first,
-            second,
-        } => popov_reply(0, 0, rank, first, second),
-    }
+    popov_reply_of(popov_form::form(p, n, m, d, a, r, u, v))
 }
 
 #[repr(C)]
@@ -142,12 +142,18 @@ pub struct DeterminantReply {
     pub place: usize,
 }
 
-fn determinant_refused(x: Refusal) -> DeterminantReply
-    ensures { λ y. ⌜ DeterminantRefusing (numberOf x) (placeOf x) y ⌝ }
+fn determinant_reply_of(x: DeterminantAnswer) -> DeterminantReply
+    ensures { λ y. ⌜ y ≡ determinantReplyOf x ⌝ }
 {
-    DeterminantReply {
-        number: refusals::number_of(x),
-        place: refusals::place_of(x),
+    match x {
+        DeterminantAnswer::NotDone(x) => DeterminantReply {
+            number: refusals::number_of(x),
+            place: refusals::place_of(x),
+        },
+        DeterminantAnswer::Done => DeterminantReply {
+            number: 0,
+            place: 0,
+        },
     }
 }
 
@@ -162,11 +168,5 @@ pub extern "C" fn moorbesen_determinant(
 ) -> DeterminantReply
     ensures { λ x. ⌜ DeterminantReplied p n m d (now (a .entry)) (now (r .entry)) (now (r .exit)) x ⌝ }
 {
-    match determining::determinant(p, n, m, d, a, r) {
-        DeterminantAnswer::NotDone(x) => determinant_refused(x),
-        DeterminantAnswer::Done => DeterminantReply {
-            number: 0,
-            place: 0,
-        },
-    }
+    determinant_reply_of(determining::determinant(p, n, m, d, a, r))
 }

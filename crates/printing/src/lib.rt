@@ -35,7 +35,8 @@ fn polynomial() -> [u16; 505]
     [0; 505]
 }
 
-fn put_refusal(out: &mut [u8; OUTPUT], number: usize, place: usize) -> usize
+// A refusal always fits into the output.
+fn refuse(out: &mut [u8; OUTPUT], number: usize, place: usize) -> usize
     ensures { λ e. ⌜ Output (λ w. w ≡ refusalText number place) (now (out .entry)) e (now (out .exit)) ⌝ }
 {
     writing::put_refusal(out, number, place)
@@ -44,7 +45,7 @@ fn put_refusal(out: &mut [u8; OUTPUT], number: usize, place: usize) -> usize
 fn put_refused(out: &mut [u8; OUTPUT], x: Refusal) -> usize
     ensures { λ e. ⌜ Output (λ w. w ≡ refusalText (numberOf x) (placeOf x)) (now (out .entry)) e (now (out .exit)) ⌝ }
 {
-    put_refusal(out, refusals::number_of(x), refusals::place_of(x))
+    refuse(out, refusals::number_of(x), refusals::place_of(x))
 }
 
 // The determinant, where there is one: the service refuses a matrix that is not square, and nothing is printed of it then.
@@ -111,7 +112,7 @@ pub fn print(text: &[u8], out: &mut [u8; OUTPUT]) -> usize
 {
     let mut room = places();
     match files::read_file(text, &mut room) {
-        Input::Format(line) => put_refusal(out, 7, line),
+        Input::Format(line) => refuse(out, 7, line),
         Input::Refused(x) => put_refused(out, x),
         Input::Matrix { p, n, m, d } => {
             let size = n * (m * (d + 1));

@@ -62,8 +62,8 @@ read-file-requires c κs = search needs
 enum-known-line : tie.Need-enum-known-line
 enum-known-line c = search needs
 
-put-refusal-requires : tie.Need-put-refusal-requires
-put-refusal-requires c κs = search needs
+refuse-requires : tie.Need-refuse-requires
+refuse-requires c κs = search needs
 
 enum-known-x : tie.Need-enum-known-x
 enum-known-x c = search needs
@@ -96,7 +96,7 @@ returns : tie.Need-returns
 returns c =
     let found = c .before .before .before in
     let read = found .before .before in
-    output-as (λ w is. printed-refused (text read) (Format _) (as-read read (found .line .given .1)) (omega arith) is) (c .put-refusal .ensures)
+    output-as (λ w is. printed-refused (text read) (Format _) (as-read read (found .line .given .1)) (omega arith) is) (c .refuse .ensures)
 
 returns-2 : tie.Need-returns-2
 returns-2 c =
@@ -118,7 +118,7 @@ print-spec =
     slice-aggregate-read-file
     read-file-requires
     enum-known-line
-    put-refusal-requires
+    refuse-requires
     enum-known-x
     put-refused-requires
     enum-known-p

@@ -11,13 +11,13 @@ number-of-requires c κs = search needs
 place-of-requires : tie.Need-place-of-requires
 place-of-requires c κs = search needs
 
-put-refusal-requires : tie.Need-put-refusal-requires
-put-refusal-requires c κs = search needs
+refuse-requires : tie.Need-refuse-requires
+refuse-requires c κs = search needs
 
 returns : tie.Need-returns
 returns c =
     let place = c .before in
-    output-as (λ w is. is ∙ ap₂ refusalText (place .before .number-of .ensures) (place .place-of .ensures)) (c .put-refusal .ensures)
+    output-as (λ w is. is ∙ ap₂ refusalText (place .before .number-of .ensures) (place .place-of .ensures)) (c .refuse .ensures)
 
 pub put-refused-spec : {M : Type 1} → statement M
-put-refused-spec = tie.close (tie.spec number-of-requires place-of-requires put-refusal-requires returns)
+put-refused-spec = tie.close (tie.spec number-of-requires place-of-requires refuse-requires returns)

@@ -5,8 +5,8 @@ use lib.ListN.{length}
 use Rattle.format.specs.Answer.{refusalText, outputRoom}
 use Rattle.format.proofs.Room.{refusal-length}
 use Rattle.printing.proofs.Answers.{output}
-use Rattle.printing.proofs.put_refusal.Statement.{statement}
-use Rattle.printing.proofs.put_refusal.Tie as tie
+use Rattle.printing.proofs.refuse.Statement.{statement}
+use Rattle.printing.proofs.refuse.Tie as tie
 
 fits : (c : tie.Start) → length (refusalText (c .args .number) (c .args .place)) ≤ outputRoom
 fits c = refusal-length (c .args .number) (c .args .place) (omega arith) (omega arith)
@@ -17,5 +17,5 @@ put-refusal-requires c κs = record { fits = omega (arith, fits (c .before), c .
 returns : tie.Need-returns
 returns c = output refl (fits (c .before .before)) (c .put-refusal .ensures)
 
-pub put-refusal-spec : {M : Type 1} → statement M
-put-refusal-spec = tie.close (tie.spec put-refusal-requires returns)
+pub refuse-spec : {M : Type 1} → statement M
+refuse-spec = tie.close (tie.spec put-refusal-requires returns)
