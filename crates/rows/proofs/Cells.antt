@@ -16,9 +16,9 @@ use Rattle.poly.specs.Polynomial.{Coefficients}
 use Rattle.arithmetic.specs.Operations.{shifted, plusMultiple, Multiple}
 use Rattle.arithmetic.proofs.Asked.{with-room}
 use Rattle.buffers.specs.Where.{whereTrue}
-use Rattle.buffers.specs.Added.{raised, CellsAdded, CellAdded}
+use Rattle.buffers.specs.Added.{raised, CellAdded}
 use Rattle.rows.specs.Asked.{Multiplier, Short}
-use Rattle.rows.proofs.Written.{none-written, written-as, cell-changed, next-kept, next-written}
+use Rattle.rows.proofs.Written.{written-as, cell-changed, next-kept, Writing, writing-turn}
 
 -- the residues of a part
 pub part-residues : (p a n : ℕ) (l : List ℕ) → a + n ≤ length l → ((i : ℕ) → i < n → getD l (a + i) 0 < p) → Coefficients p (part a n l)
@@ -56,17 +56,10 @@ module _ (p reciprocal c e w top a : ℕ) (b src : List ℕ) (fits : a + w ≤ l
   cell-back from s same new new-is = rw (new-is, add-sub-cancel-left a w)
       (written-as (λ _ t _ lt. ap (λ (x : ℕ). (getD b (a + t) 0 + c * x) % p) (same t lt)) (cell-changed _ a w b fits))
 
--- where a loop stands that adds to `count` cells, one after the other: it has come to i, and the buffer is now b
-pub record Adding (p c e w count : ℕ) (to from : ℕ → ℕ → ℕ) (s b₀ b : List ℕ) (i : ℕ) : Type 0 where
-  pub reached : i ≤ count
-  pub done : CellsAdded p c e w i to from s b₀ b
-
-pub adding-start : (p c e w count : ℕ) (to from : ℕ → ℕ → ℕ) (s b : List ℕ) → Adding p c e w count to from s b b 0
-adding-start p c e w count to from s b = record { reached = omega arith; done = none-written }
-
-pub adding-end : (p c e w count : ℕ) (to from : ℕ → ℕ → ℕ) (s b₀ b : List ℕ) (i : ℕ) → Adding p c e w count to from s b₀ b i → count ≤ i
-    → CellsAdded p c e w count to from s b₀ b
-adding-end p c e w count to from s b₀ b i now h = let all : i ≡ count = omega (arith, now .reached) in rw all at (now .done)
+-- where a loop stands that adds to `count` cells, one after the other
+abbrev pub Adding : (p c e w count : ℕ) (to from : ℕ → ℕ → ℕ) (s b₀ b : List ℕ) (i : ℕ) → Type 0
+Adding p c e w count to from s b₀ b i =
+    Writing w count to (λ j t. (getD b₀ (to j t) 0 + c * raised e (λ u. getD s (from j u) 0) t) % p) b₀ b i
 
 -- cell i starts at `to i`, apart from the cells before it, and what is added to it stands at `from i`
 module _ (p c e w count : ℕ) (to from : ℕ → ℕ) (s₀ b₀ b : List ℕ) (i : ℕ)
@@ -78,8 +71,5 @@ module _ (p c e w count : ℕ) (to from : ℕ → ℕ) (s₀ b₀ b : List ℕ) 
 
   pub adding-turn : (s b′ : List ℕ) → CellAdded p c e w (to i) (from i) s b b′ → ((u : ℕ) → u < w → getD s (from i + u) 0 ≡ getD s₀ (from i + u) 0)
       → Adding p c e w count (λ j t. to j + t) (λ j t. from j + t) s₀ b₀ b′ (i + 1)
-  adding-turn s b′ cell source = record {
-    reached = omega arith;
-    done = next-written apart (now .done) (written-as
-        (λ _ t _ lt. ap₂ (λ (x y : ℕ). (x + c * whereTrue (leb e t) y) % p) (next-kept apart (now .done) t lt) (source (t - e) (omega arith))) cell);
-  }
+  adding-turn s b′ cell source = writing-turn now li apart
+      (λ t lt. ap₂ (λ (x y : ℕ). (x + c * whereTrue (leb e t) y) % p) (next-kept apart (now .done) t lt) (source (t - e) (omega arith))) cell

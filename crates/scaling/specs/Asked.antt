@@ -10,7 +10,13 @@ pub record PartToScale (p reciprocal size start : ℕ) (b : List ℕ) : Type 0 w
   pub ready : Ready p reciprocal
   pub fits : start + size ≤ length b
 
--- the same for a column of an n by n matrix
+-- `count` cells of w places that follow one another at equal distances, and do not overlap
+pub record CellsToScale (p reciprocal w start stride count : ℕ) (b : List ℕ) : Type 0 where
+  pub ready : Ready p reciprocal
+  pub fits : (i : ℕ) → i < count → start + i * stride + w ≤ length b
+  pub distance : w ≤ stride
+
+-- a column of an n by n matrix
 pub record ColumnToScale (p reciprocal n w x : ℕ) (b : List ℕ) : Type 0 where
   pub ready : Ready p reciprocal
   pub size : length b ≡ n * (n * w)

@@ -1,15 +1,14 @@
 use native.Mathlib.Omega.{arith}
-use mathlib.Core.Path.{_≡_, refl, sym, _∙_}
+use mathlib.Core.Path.{_≡_}
 use mathlib.Core.List.{List}
-use Prim.Native.Nat.{ℕ, suc, _+_, _*_, _-_, _≤_, _<_}
+use Prim.Native.Nat.{ℕ, _+_, _*_, _-_, _≤_, _<_}
 use native.Mathlib.Nat as N
-use lib.ListN.{getD}
-use Rattle.algebra.proofs.Cases.{case-le}
-use Rattle.buffers.specs.Place.{place}
+use Rattle.buffers.specs.Place.{place, Outside}
 use Rattle.buffers.specs.Exchanged.{CellsExchanged}
 use Rattle.buffers.proofs.Place.{place-own}
 use Rattle.exchanging.specs.Asked.{TwoParts, TwoColumns}
-use Rattle.rows.proofs.Lines.{cell-ends, cells-apart}
+use Rattle.rows.proofs.Lines.{cell-ends}
+use Rattle.exchanging.proofs.Pairs.{none-exchanged, next-exchanged}
 use Rattle.exchanging.proofs.exchange_columns.Statement.{statement}
 use Rattle.exchanging.proofs.exchange_columns.Tie as tie
 
@@ -23,32 +22,15 @@ module _ (n w x y : ℕ) (v₀ v : List ℕ) (pre : TwoColumns n w x y v₀) (i 
     apart = λ t u lt lu same. pre .differ (place-own n w i x t i y u (pre .x-fits) lt (pre .y-fits) lu (omega arith) .1 .0);
   }
 
-  -- row i is as it was
-  kept : (a t : ℕ) → a < n → t < w → getD v (place n w i a t) 0 ≡ getD v₀ (place n w i a t) 0
-  kept a t la lt = done .others _
-      (λ j u lj lu same. cells-apart n w j x u i a t (pre .x-fits) lu la lt lj (sym same))
-      (λ j u lj lu same. cells-apart n w j y u i a t (pre .y-fits) lu la lt lj (sym same))
+  -- they have no place in common with the cells of the rows before
+  away : (a b t : ℕ) → a < n → b < n → t < w → Outside w i (λ j. place n w j b) (place n w i a t)
+  away a b t la lb lt j u lj lu same = omega (arith, place-own n w i a t j b u la lt lb lu same .0)
 
-  module _ (v′ : List ℕ) (cell : CellsExchanged w 1 (λ _. place n w i x) (λ _. place n w i y) v v′) where
-    -- and the rows before it stay
-    stays : (j a t : ℕ) → j < i → a < n → t < w → getD v′ (place n w j a t) 0 ≡ getD v (place n w j a t) 0
-    stays j a t lj la lt = cell .others _
-        (λ _ u _ lu. cells-apart n w j a t i x u la lt (pre .x-fits) lu lj)
-        (λ _ u _ lu. cells-apart n w j a t i y u la lt (pre .y-fits) lu lj)
-
-    turn : CellsExchanged w (i + 1) (λ j. place n w j x) (λ j. place n w j y) v₀ v′
-    turn = record {
-      size = cell .size ∙ done .size;
-      exchanged = λ j t lj lt. case-le (suc j) i
-          (λ before. let (one, other) = done .exchanged j t before lt in
-          (stays j x t before (pre .x-fits) lt ∙ one, stays j y t before (pre .y-fits) lt ∙ other))
-          (λ from. let here : j ≡ i = omega arith in
-          let (one, other) = cell .exchanged 0 t (omega arith) lt in
-          rw here (one ∙ kept y t (pre .y-fits) lt, other ∙ kept x t (pre .x-fits) lt));
-      others = λ z outside outside′.
-          cell .others z (λ _ t _ lt. outside i t (omega arith) lt) (λ _ t _ lt. outside′ i t (omega arith) lt)
-          ∙ done .others z (λ j t lj lt. outside j t (omega arith) lt) (λ j t lj lt. outside′ j t (omega arith) lt);
-    }
+  turn : (v′ : List ℕ) → CellsExchanged w 1 (λ _. place n w i x) (λ _. place n w i y) v v′
+      → CellsExchanged w (i + 1) (λ j. place n w j x) (λ j. place n w j y) v₀ v′
+  turn v′ = next-exchanged
+      (λ t lt. (away x x t (pre .x-fits) (pre .x-fits) lt, away x y t (pre .x-fits) (pre .y-fits) lt))
+      (λ t lt. (away y x t (pre .y-fits) (pre .x-fits) lt, away y y t (pre .y-fits) (pre .y-fits) lt)) done
 
 abbrev Inv-loop : tie.InvT-loop
 Inv-loop v₀ n w x y i₀ v i = (i ≤ n) × CellsExchanged w i (λ j. place n w j x) (λ j. place n w j y) v₀ v
@@ -57,7 +39,7 @@ abbrev μ-loop : tie.MeasureT-loop
 μ-loop v₀ n w x y i₀ v i = n - i
 
 loop-holds : tie.Need-loop-holds Inv-loop μ-loop
-loop-holds c = (omega arith, record { size = refl; exchanged = λ i t l _. absurd (omega arith); others = λ _ _ _. refl })
+loop-holds c = (omega arith, none-exchanged)
 
 mul-row : tie.Need-mul-row Inv-loop μ-loop
 mul-row c = let start = c .before .before .before in omega (arith, cell-ends (start .args .w) (c .loop-test .taken) (start .pre .x-fits))

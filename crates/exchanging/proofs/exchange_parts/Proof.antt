@@ -1,32 +1,29 @@
 use native.Mathlib.Omega.{arith}
-use mathlib.Core.Path.{_≡_, refl, sym, _∙_}
+use mathlib.Core.Path.{_≡_, sym, _∙_}
 use mathlib.Core.Logic.{_≢_}
 use mathlib.Core.List.{List}
-use Prim.Native.Nat.{ℕ, suc, _+_, _-_, _≤_, _<_}
+use Prim.Native.Nat.{ℕ, _+_, _-_, _≤_, _<_}
 use lib.ListN.{length, getD, set, length-set}
 use lib.Seq.{getD-set-same, getD-set-other}
-use Rattle.algebra.proofs.Cases.{case-le}
-use Rattle.buffers.specs.Exchanged.{CellExchanged}
+use Rattle.buffers.specs.Exchanged.{CellsExchanged, CellExchanged}
 use Rattle.exchanging.specs.Asked.{TwoParts}
+use Rattle.exchanging.proofs.Pairs.{none-exchanged, next-exchanged}
 use Rattle.exchanging.proofs.exchange_parts.Statement.{statement}
 use Rattle.exchanging.proofs.exchange_parts.Tie as tie
 
+-- the first t places of both parts changed places, each as a cell of one place
+abbrev Exchanging : (t one other : ℕ) (b₀ b : List ℕ) → Type 0
+Exchanging t one other b₀ b = CellsExchanged 1 t (λ u _. one + u) (λ u _. other + u) b₀ b
+
 -- one turn: the numbers at t of both parts change places
 module _ (size one other : ℕ) (b₀ b : List ℕ) (pre : TwoParts size one other b₀) (t : ℕ)
-    (done : CellExchanged t one other b₀ b) (lt : t < size) where
+    (done : Exchanging t one other b₀ b) (lt : t < size) where
   -- they are within the buffer
   inside : (one + t < length b) × (other + t < length b)
   inside = (omega (arith, pre .one-fits, done .size), omega (arith, pre .other-fits, done .size))
 
   apart : (u v : ℕ) → u ≤ t → v ≤ t → one + u ≢ other + v
   apart u v lu lv = pre .apart u v (omega arith) (omega arith)
-
-  -- and as they were
-  one-kept : getD b (one + t) 0 ≡ getD b₀ (one + t) 0
-  one-kept = done .others _ (λ _ u _ lu. omega arith) (λ _ u _ lu. apart t u (omega arith) (omega arith))
-
-  other-kept : getD b (other + t) 0 ≡ getD b₀ (other + t) 0
-  other-kept = done .others _ (λ _ u _ lu same. apart u t (omega arith) (omega arith) (sym same)) (λ _ u _ lu. omega arith)
 
   -- the buffer after the first store, and after both
   abbrev half : List ℕ
@@ -35,29 +32,33 @@ module _ (size one other : ℕ) (b₀ b : List ℕ) (pre : TwoParts size one oth
   abbrev both : List ℕ
   both = set half (other + t) (getD b (one + t) 0)
 
-  elsewhere : (x : ℕ) → x ≢ one + t → x ≢ other + t → getD both x 0 ≡ getD b x 0
-  elsewhere x p q = getD-set-other half (other + t) x _ 0 q ∙ getD-set-other b (one + t) x _ 0 p
-
-  turn : CellExchanged (t + 1) one other b₀ both
-  turn = record {
-    size = length-set half _ _ ∙ length-set b _ _ ∙ done .size;
-    exchanged = λ _ u _ lu. case-le (suc u) t
-        (λ before. let (in-one, in-other) = done .exchanged 0 u (omega arith) before in (
-          elsewhere _ (λ same. omega arith) (apart u t (omega arith) (omega arith)) ∙ in-one,
-          elsewhere _ (λ same. apart t u (omega arith) (omega arith) (sym same)) (λ same. omega arith) ∙ in-other,
-        ))
-        (λ from. let here : u ≡ t = omega arith in
-        rw here (
-          getD-set-other half (other + t) _ _ 0 (apart t t (omega arith) (omega arith)) ∙ getD-set-same b (one + t) _ 0 (inside .0) ∙ other-kept,
-          getD-set-same half (other + t) _ 0 (omega (arith, inside, length-set b (one + t) (getD b (other + t) 0))) ∙ one-kept,
-        ));
+  stored : CellsExchanged 1 1 (λ _ _. one + t) (λ _ _. other + t) b both
+  stored = record {
+    size = length-set half _ _ ∙ length-set b _ _;
+    exchanged = λ _ _ _ _. (
+      getD-set-other half (other + t) _ _ 0 (apart t t (omega arith) (omega arith)) ∙ getD-set-same b (one + t) _ 0 (inside .0),
+      getD-set-same half (other + t) _ 0 (omega (arith, inside, length-set b (one + t) (getD b (other + t) 0))),
+    );
     others = λ x outside outside′.
-        elsewhere x (outside 0 t (omega arith) (omega arith)) (outside′ 0 t (omega arith) (omega arith))
-        ∙ done .others x (λ i u li lu. outside i u li (omega arith)) (λ i u li lu. outside′ i u li (omega arith));
+        getD-set-other half (other + t) x _ 0 (outside′ 0 0 (omega arith) (omega arith))
+        ∙ getD-set-other b (one + t) x _ 0 (outside 0 0 (omega arith) (omega arith));
   }
 
+  turn : Exchanging (t + 1) one other b₀ both
+  turn = next-exchanged
+      (λ _ _. ((λ u _ lu _ same. omega arith), (λ u _ lu _. apart t u (omega arith) (omega arith))))
+      (λ _ _. ((λ u _ lu _ same. apart u t (omega arith) (omega arith) (sym same)), (λ u _ lu _ same. omega arith))) done stored
+
+-- all places of the parts, as the places of two cells
+whole : (size one other : ℕ) (b₀ b : List ℕ) → Exchanging size one other b₀ b → CellExchanged size one other b₀ b
+whole size one other b₀ b d = record {
+  size = d .size;
+  exchanged = λ _ t _ lt. d .exchanged t 0 lt (omega arith);
+  others = λ x outside outside′. d .others x (λ t _ lt _. outside 0 t (omega arith) lt) (λ t _ lt _. outside′ 0 t (omega arith) lt);
+}
+
 abbrev Inv-loop : tie.InvT-loop
-Inv-loop buf₀ one other size t₀ buf t = (t ≤ size) × CellExchanged t one other buf₀ buf
+Inv-loop buf₀ one other size t₀ buf t = (t ≤ size) × Exchanging t one other buf₀ buf
 
 abbrev μ-loop : tie.MeasureT-loop
 μ-loop buf₀ one other size t₀ buf t = size - t
@@ -67,7 +68,7 @@ places : (c : tie.In-loop Inv-loop μ-loop) → (c .before .before .args .one + 
 places c = inside _ _ _ _ _ (c .before .before .pre) _ (c .before .loop .inv .1) (c .loop-test .taken)
 
 loop-holds : tie.Need-loop-holds Inv-loop μ-loop
-loop-holds c = (omega arith, record { size = refl; exchanged = λ _ t _ l. absurd (omega arith); others = λ _ _ _. refl })
+loop-holds c = (omega arith, none-exchanged)
 
 add-x : tie.Need-add-x Inv-loop μ-loop
 add-x c = omega (arith, places c)
@@ -116,7 +117,7 @@ same-length c = c .before .loop .inv .1 .size
 returns : tie.Need-returns Inv-loop μ-loop
 returns c =
     let all : c .before .loop .t ≡ c .before .before .args .size = omega arith in
-    rw all at (c .before .loop .inv .1)
+    whole _ _ _ _ _ (rw all at (c .before .loop .inv .1))
 
 pub exchange-parts-spec : {M : Type 1} → statement M
 exchange-parts-spec =

@@ -5,9 +5,10 @@ use mathlib.Core.List.{List}
 use Prim.Native.Nat.{ℕ, _+_, _*_, _-_, _≤_, _<_}
 use lib.ListN.{length, getD}
 use Rattle.buffers.specs.Added.{CellAdded}
-use Rattle.lists.proofs.Grid.{line-end}
 use Rattle.rows.specs.Asked.{spaced, CellPair, CellPairs}
-use Rattle.rows.proofs.Cells.{part-residues, Adding, adding-start, adding-end, adding-turn, next-residues}
+use Rattle.rows.proofs.Written.{writing-start, writing-end}
+use Rattle.rows.proofs.Lines.{spaced-apart}
+use Rattle.rows.proofs.Cells.{part-residues, Adding, adding-turn, next-residues}
 use Rattle.rows.proofs.add_cells.Statement.{statement}
 use Rattle.rows.proofs.add_cells.Tie as tie
 
@@ -15,7 +16,7 @@ use Rattle.rows.proofs.add_cells.Tie as tie
 module _ (p reciprocal c e w top to from stride count : ℕ) (b₀ spare₀ b : List ℕ) (pre : CellPairs p reciprocal c e w top to from stride count b₀ spare₀)
     (i : ℕ) (now : Adding p c e w count (spaced to stride) (spaced from stride) b₀ b₀ b i) (li : i < count) where
   apart : (j t u : ℕ) → j < i → t < w → u < w → to + j * stride + t ≢ to + i * stride + u
-  apart j t u lj lt lu same = let wide = pre .distance in omega (arith, line-end j i stride lj)
+  apart = spaced-apart to (pre .distance) i
 
   -- the cell that is read is as it was
   source : (u : ℕ) → u < w → getD b (from + i * stride + u) 0 ≡ getD b₀ (from + i * stride + u) 0
@@ -48,7 +49,7 @@ abbrev μ-loop : tie.MeasureT-loop
 μ-loop buf₀ spare₀ to from stride count w top c e md i₀ buf spare i = count - i
 
 loop-holds : tie.Need-loop-holds Inv-loop μ-loop
-loop-holds c = (adding-start _ _ _ _ _ _ _ _ _, refl)
+loop-holds c = (writing-start, refl)
 
 mul-done : tie.Need-mul-done Inv-loop μ-loop
 mul-done c = let start = c .before .before .before .before in omega (arith, start .pre .to-fits _ (c .loop-test .taken))
@@ -87,7 +88,7 @@ same-length-2 : tie.Need-same-length-2 Inv-loop μ-loop
 same-length-2 c = c .before .loop .inv .1
 
 returns : tie.Need-returns Inv-loop μ-loop
-returns c = adding-end _ _ _ _ _ _ _ _ _ _ _ (c .before .loop .inv .0) (c .loop-test .left)
+returns c = writing-end (c .before .loop .inv .0) (c .loop-test .left)
 
 pub add-cells-spec : {M : Type 1} → statement M
 add-cells-spec =

@@ -10,7 +10,8 @@ use Rattle.arithmetic.specs.Operations.{plusMultiple, Multiple}
 use Rattle.buffers.specs.Place.{inRow}
 use Rattle.lists.proofs.Grid.{line-end}
 use Rattle.rows.specs.Asked.{RowPair}
-use Rattle.rows.proofs.Cells.{part-residues, short-cell, shifted-part, cell-lent, cell-back, Adding, adding-start, adding-end, adding-turn, next-residues}
+use Rattle.rows.proofs.Cells.{part-residues, short-cell, shifted-part, cell-lent, cell-back, Adding, adding-turn, next-residues}
+use Rattle.rows.proofs.Written.{writing-start, writing-end}
 use Rattle.rows.proofs.add_to_row.Statement.{statement}
 use Rattle.rows.proofs.add_to_row.Tie as tie
 
@@ -50,7 +51,7 @@ ends : (c : tie.In-loop Inv-loop μ-loop) → c .before .loop .j * c .before .be
 ends c = line-end _ _ _ (c .loop-test .taken)
 
 loop-holds : tie.Need-loop-holds Inv-loop μ-loop
-loop-holds c = adding-start _ _ _ _ _ _ _ _ _
+loop-holds c = writing-start
 
 mul-start : tie.Need-mul-start Inv-loop μ-loop
 mul-start c = omega (arith, ends c)
@@ -106,7 +107,7 @@ same-length : tie.Need-same-length Inv-loop μ-loop
 same-length c = c .before .loop .inv .done .size
 
 returns : tie.Need-returns Inv-loop μ-loop
-returns c = adding-end _ _ _ _ _ _ _ _ _ _ _ (c .before .loop .inv) (c .loop-test .left)
+returns c = writing-end (c .before .loop .inv) (c .loop-test .left)
 
 pub add-to-row-spec : {M : Type 1} → statement M
 add-to-row-spec =

@@ -24,17 +24,17 @@ cleared n w u₀ u size u-is = rw u-is (record {
 })
 
 -- the ones of the rows before i are written
-record Writing (n w : ℕ) (u : List ℕ) (i : ℕ) : Type 0 where
+record WritingOnes (n w : ℕ) (u : List ℕ) (i : ℕ) : Type 0 where
   reached : i ≤ n
   some : 0 < w
   done : Ones n w i u
 
-module _ (n w : ℕ) (u : List ℕ) (i : ℕ) (now : Writing n w u i) (li : i < n) where
+module _ (n w : ℕ) (u : List ℕ) (i : ℕ) (now : WritingOnes n w u i) (li : i < n) where
   -- row i and the one in it are within the buffer
   inside : (place n w i i 0 < length u) × (n * w ≤ length u)
   inside = (omega (arith, now .done .size, place-inside n n w i i 0 li li (now .some)), omega (arith, now .done .size, line-end i n (n * w) li))
 
-  turn : (at : ℕ) → at ≡ place n w i i 0 → Writing n w (set u at 1) (i + 1)
+  turn : (at : ℕ) → at ≡ place n w i i 0 → WritingOnes n w (set u at 1) (i + 1)
   turn at at-is =
       let some = now .some in
       record {
@@ -50,7 +50,7 @@ module _ (n w : ℕ) (u : List ℕ) (i : ℕ) (now : Writing n w u i) (li : i < 
       }
 
 abbrev Inv-loop : tie.InvT-loop
-Inv-loop u₀ n w i₀ u i = Writing n w u i
+Inv-loop u₀ n w i₀ u i = WritingOnes n w u i
 
 abbrev μ-loop : tie.MeasureT-loop
 μ-loop u₀ n w i₀ u i = n - i
