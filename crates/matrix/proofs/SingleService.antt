@@ -1,5 +1,5 @@
 -- From the checks to the single step, and from its end to the answer.
-use mathlib.Core.Path.{_≡_, refl, sym, ap, subst, _∙_}
+use mathlib.Core.Path.{_≡_, refl, sym, ap, _∙_}
 use mathlib.Core.Bool.{false}
 use mathlib.Core.List.{List, [], _∷_}
 use Prim.Native.Nat.{ℕ, _+_}
@@ -35,6 +35,5 @@ module _ {p n m d : ℕ} {a r : List ℕ} (passed : StepPassed p n m d a r) wher
   step-asked q-is ready r-is = input-asked (step-order .numbers) (sized 0) (step-order .residues) q-is ready r-is
 
   -- a step on the copy is a step on the input
-  pub step-answered : (q count : ℕ) (b r′ : List ℕ) → q ≡ p → b ≡ a → SteppedOnce q n m (d + 1) count b r′ → StepAnswered p n m d a r r′ (Done count)
-  step-answered q count b r′ q-is b-is h =
-      answer-done (passed .told) (subst (λ (t : List ℕ). SteppedOnce p n m (d + 1) count t r′) b-is (subst (λ (t : ℕ). SteppedOnce t n m (d + 1) count b r′) q-is h))
+  pub step-answered : {q count : ℕ} {b r′ : List ℕ} → q ≡ p → b ≡ a → SteppedOnce q n m (d + 1) count b r′ → StepAnswered p n m d a r r′ (Done count)
+  step-answered q-is b-is stepped = answer-done (passed .told) (rw (sym q-is) (rw (sym b-is) stepped))

@@ -1,7 +1,9 @@
 use native.Mathlib.Omega.{arith}
 use borrow.Author.Needs.{needs}
+use mathlib.Core.Path.{sym, subst}
 use Prim.Native.Nat.{_<_}
 use native.Mathlib.Nat.{mod-lt}
+use Rattle.poly.specs.Polynomial.{Coefficients}
 use Rattle.arithmetic.proofs.Asked.{scaled-coefficients}
 use Rattle.poly_bench.proofs.add_reduced.Statement.{statement}
 use Rattle.poly_bench.proofs.add_reduced.Tie as tie
@@ -22,8 +24,12 @@ add-rounds-requires c κs =
     let factor = target .before .before in
     let start = factor .before .before .before in
     let some : 0 < start .args .m .p = omega (arith, start .pre .0 .range .two) in (
-      (start .pre .0, rw (factor .of .ensures) (mod-lt _ some)),
-      (rw (target .scale .ensures) (scaled-coefficients _ _ _ some), rw (source .scale2 .ensures) (scaled-coefficients _ _ _ some), omega (arith, start .pre .1, target .scale .kept .0, source .scale2 .kept .0)),
+      (start .pre .0, omega (arith, factor .of .ensures, mod-lt (start .args .c) some)),
+      (
+        subst (Coefficients _) (sym (target .scale .ensures)) (scaled-coefficients _ _ _ some),
+        subst (Coefficients _) (sym (source .scale2 .ensures)) (scaled-coefficients _ _ _ some),
+        omega (arith, start .pre .1, target .scale .kept .0, source .scale2 .kept .0),
+      ),
     )
 
 same-length : tie.Need-same-length

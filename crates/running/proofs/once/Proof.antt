@@ -61,8 +61,8 @@ same-length c = search needs
 
 returns : tie.Need-returns
 returns c =
-    let found = c .before .before .before .before .before .before .before in
-    stepped-none (found .before .before .before .before .before .before .before .before .pre) (next-is _ _ _ _ _ (found .all .ensures) _ _ (c .before .before .next-rows .ensures) (c .enum-told .given .1))
+    let all = c .before .before .before .before .before .before .before in
+    stepped-none (all .before .before .before .before .before .before .before .before .pre) (next-is _ _ _ _ _ (all .all .ensures) _ _ (c .before .before .next-rows .ensures) (c .enum-told .given .1))
 
 slice-aggregate-plan : tie.Need-slice-aggregate-plan
 slice-aggregate-plan c = search needs

@@ -45,7 +45,7 @@ same-length c = search needs
 returns-2 : tie.Need-returns-2
 returns-2 c =
     let made = c .before .before .before in
-    step-answered (known (made .before .before .before .before .before .before)) _ _ _ _ (made .of .ensures .0) (made .before .before .before .before .copy .ensures) (c .before .before .once .ensures)
+    step-answered (known (made .before .before .before .before .before .before)) (made .of .ensures .0) (made .before .before .before .before .copy .ensures) (c .before .before .once .ensures)
 
 pub step-spec : {M : Type 1} → statement M
 step-spec =
