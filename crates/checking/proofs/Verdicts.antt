@@ -46,7 +46,7 @@ module _ (determinant : Bool) (p n m d : ℕ) (given wanted a : List ℕ) (numbe
   pub high-coefficient : (i : ℕ) → given ≡ wanted → i < length a → FirstHigh p a i
       → Verdict determinant p n m d given wanted a (Refused (Coefficient i))
   high-coefficient i same within first =
-      past-numbers 6 i (inr (same, inl ((λ residues. omega (arith, first .high within, residues .below i within)), refl, first)))
+      past-numbers 6 i (inr (same, inl ((λ residues. omega (arith, first .here within, residues .below i within)), refl, first)))
 
   -- nothing is refused
   pub all-right : given ≡ wanted → Coefficients p a → Verdict determinant p n m d given wanted a Fine

@@ -36,7 +36,7 @@ use Rattle.stepping.specs.Holding.{Holding}
 use Rattle.running.specs.Listed.{maskOf}
 use Rattle.running.specs.Reduced.{ReducedBy}
 use Rattle.finishing.specs.Finishing.{PopovBy}
-use Rattle.matrix.specs.Determinant.{IsDeterminant}
+use Rattle.stages.specs.Determinant.{IsDeterminant}
 use Rattle.examples.specs.Answers.{Answers, ArePivots}
 use Rattle.examples.proofs.Listing.{listing, length-listing, getD-listing, written, held-written}
 

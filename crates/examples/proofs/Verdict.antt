@@ -77,7 +77,7 @@ coefficients p a = go (least (length a) (λ i. p ≤ getD a i 0) (λ i. decLe p 
     go (inl x) = inr (
       (λ y. omega (arith, y .below (x .at) (x .fits), x .holds)),
       x .at,
-      record { within = omega (arith, x .fits); high = λ _. x .holds; before = λ j l. N.lt-of-not-le (x .least j l) },
+      record { within = omega (arith, x .fits); here = λ _. x .holds; before = x .least },
     )
     go (inr none) = inl (record { below = λ i l. N.lt-of-not-le (none i l) })
 

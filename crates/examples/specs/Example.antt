@@ -5,7 +5,7 @@ use mathlib.Core.List.{List, [], _∷_}
 use Prim.Native.Nat.{ℕ}
 use Rattle.refusals.specs.Answering.{Told}
 use Rattle.refusals.specs.Refused.{refusalTable}
-use Rattle.matrix.specs.Determinant.{IsDeterminant}
+use Rattle.stages.specs.Determinant.{IsDeterminant}
 use Rattle.examples.specs.Answers.{Answers, ArePivots}
 
 -- what an example may name of the answers: of the reduction the rank, the count, R, U and V, and of the Popov form the two counts and P

@@ -5,7 +5,7 @@ use Prim.Native.Nat.{ℕ}
 use lib.ListN.{length}
 use Rattle.refusals.proofs.Unique.{One, Decides, zero-one, high-one, decides}
 use Rattle.format.specs.Line.{Lines, read, wrong}
-use Rattle.format.specs.File.{headLines, bodyLines, WrongLine}
+use Rattle.format.specs.File.{headLines, bodyLines, numbersOf, headModulus, WrongLine}
 use Rattle.files.specs.Table.{tableBy, printerTable}
 
 line-one : (first : ℕ) (x : Lines) → One (WrongLine first x)
@@ -14,7 +14,8 @@ line-one first (wrong c) i j f g = f ∙ sym g
 
 table-unique : (size : ℕ) (head : Lines) → Decides (tableBy size head)
 table-unique size head =
-    decides (tableBy size head) (zero-one, (line-one 1 head, (zero-one, (zero-one, (zero-one, (line-one 5 (bodyLines head), (high-one _ _, tt)))))))
+    decides (tableBy size head)
+    (zero-one, (line-one 1 head, (zero-one, (zero-one, (zero-one, (line-one 5 (bodyLines head), (high-one (headModulus head) (numbersOf (bodyLines head)), tt)))))))
 
 -- the printer's table allows one number and one place for each text
 pub printer-unique : (s : List ℕ) → Decides (printerTable s)

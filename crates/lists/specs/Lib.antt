@@ -3,3 +3,4 @@ pub mod Part
 pub mod Last
 pub mod Total
 pub mod Skip
+pub mod First

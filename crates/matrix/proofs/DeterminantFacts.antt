@@ -11,7 +11,8 @@ use Rattle.buffers.proofs.Place.{by-rows}
 use Rattle.refusals.specs.Refused.{determinantSizes}
 use Rattle.refusals.proofs.Answering.{refusal-number, in-order}
 use Rattle.refusals.proofs.Unique.{refusal-same, told-unique, answering-unique}
-use Rattle.matrix.specs.Determinant.{IsDeterminant, DeterminantPromised, DeterminantAnswered, numberOf, placeOf}
+use Rattle.stages.specs.Determinant.{IsDeterminant}
+use Rattle.matrix.specs.Determinant.{DeterminantPromised, DeterminantAnswered, numberOf, placeOf}
 use Rattle.matrix.specs.declared.determining.DeterminantAnswer.{DeterminantAnswer}
 use Rattle.matrix.specs.declared.determining.DeterminantAnswer.the-variants.{NotDone, Done}
 

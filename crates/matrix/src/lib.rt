@@ -3,4 +3,3 @@ pub mod determining;
 pub mod popov_form;
 pub mod reducing;
 pub mod single;
-mod wide;

@@ -150,15 +150,6 @@ module _ {m w wide k : ℕ} {r next₀ column₀ : List ℕ} (asked : PartAsked 
 -- r holds M in `rows` rows, of which those without row k are meant
 module _ {p rows m w wide k : ℕ} {r next column : List ℕ} {M : ℕ → Row (Zp p)} (h : Held (by-rows rows m w) p r M)
     (left : (s : ℕ) → s < m → skip k s < rows) where
-  pub part-asked : 0 < m → length next ≡ m * ((m - 1) * w) → length column ≡ m * (1 * wide) → w ≤ wide → PartAsked m w wide k r next column
-  part-asked columns next-size column-size widened = record {
-    columns = columns;
-    inside = λ s ls. omega (arith, h .size, line-end (skip k s) rows (m * w) (left s ls));
-    next-size = next-size;
-    column-size = column-size;
-    widened = widened;
-  }
-
   module _ (d : Parted m w wide k r next column) where
     -- the rows that are left, without their last entries
     pub held-next : Held (by-rows m (m - 1) w) p next (λ s. M (skip k s))

@@ -1,3 +1,4 @@
-pub mod Stages
 pub mod Signed
 pub mod Parting
+pub mod Lay
+pub mod TakingOut

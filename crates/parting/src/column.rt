@@ -2,6 +2,7 @@
 ghost use mathlib.Core.Path.{_≡_};
 ghost use Prim.Native.Nat.{_<_};
 ghost use Rattle.lists.specs.Skip.{skip};
+ghost use Rattle.parting.specs.Lay.{LayAsked, Laid};
 ghost use Rattle.parting.specs.Parting.{CellAsked, CellFilled, PartAsked, Parted};
 
 // Row s of those that are left when row k is taken out.
@@ -47,4 +48,23 @@ pub fn part(
         fill(&r[last..end], column, s * wide, wide);
         s += 1;
     }
+}
+
+// The last column of the matrix in a is parted from the others, in the front of the buffers, and the product is 1.
+pub fn lay(
+    a: &[u16],
+    r: &mut [u16],
+    column: &mut [u16],
+    product: &mut [u16],
+    n: usize,
+    w: usize,
+    wide: usize,
+)
+    requires { ⌜ LayAsked n w wide (now a) (now r) (now column) (now product) ⌝ }
+    ensures { λ _. ⌜ Laid n w wide (now (a .entry)) (now (r .exit)) (now (column .exit)) (now (product .exit)) ⌝ }
+{
+    let size = n * ((n - 1) * w);
+    let cells = n * wide;
+    part(a, &mut column[..cells], &mut r[..size], n, n, w, wide);
+    rows::write_identity(product, 1, wide);
 }

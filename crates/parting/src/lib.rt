@@ -1,11 +1,9 @@
-// The parts of the determinant on buffers: one stage reduces all columns but the last, which is parted from them and
-// follows; then the lowest zero row is taken out, its entry in the last column is a factor, and the next column is parted.
-pub mod column;
-pub mod product;
-pub mod stage;
+// Between the stages of the determinant, on buffers: the last column is parted from the others for the first stage, and after each
+// one the lowest zero row is taken out, its entry in the parted column is a factor, and the next column is parted.
+mod column;
+mod product;
+mod taking;
 
-pub use column::part;
+pub use column::lay;
 pub use product::multiply;
-pub use stage::lowest_zero;
-pub use stage::slack;
-pub use stage::step;
+pub use taking::take_out;

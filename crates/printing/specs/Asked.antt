@@ -6,7 +6,7 @@ use lib.ListN.{length}
 use Rattle.poly.specs.Polynomial.{Coefficients}
 use Rattle.refusals.specs.Refused.{Numbers}
 use Rattle.running.specs.Reduced.{IsDone}
-use Rattle.matrix.specs.Determinant.{IsDeterminant}
+use Rattle.stages.specs.Determinant.{IsDeterminant}
 
 -- an n by m matrix that no refusal applies to
 pub record MatrixAsked (p n m d : ℕ) (a : List ℕ) : Type 0 where

@@ -6,7 +6,7 @@ use mathlib.Core.List.{List}
 use Prim.Native.Nat.{ℕ, _+_, _≤_, _<_}
 use Rattle.refusals.specs.Answering.{Told}
 use Rattle.running.specs.Reduced.{IsDone}
-use Rattle.matrix.specs.Determinant.{IsDeterminant}
+use Rattle.stages.specs.Determinant.{IsDeterminant}
 use Rattle.format.specs.Line.{Lines}
 use Rattle.format.specs.File.{headLines, numbersOf, headModulus, headRows, headColumns, headDegree, bodyLines}
 use Rattle.format.specs.Answer.{refusalText, answerText, outputRoom}

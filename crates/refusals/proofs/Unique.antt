@@ -34,7 +34,7 @@ wrong-one given wanted = one _ (λ i j f g lt. f .wrong (g .before (f .at) (omeg
 
 -- only one coefficient is the first that is not below p
 pub high-one : (p : ℕ) (a : List ℕ) → One (FirstHigh p a)
-high-one p a = one _ (λ i j f g lt. omega (arith, f .high (omega (arith, g .within)), g .before i lt))
+high-one p a = one _ (λ i j f g lt. g .before i lt (f .here (omega (arith, g .within))))
 
 -- a table allows one number and one place
 abbrev pub Decides : List Row → Type 0

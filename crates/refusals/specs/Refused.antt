@@ -5,6 +5,7 @@ use mathlib.Core.Logic.{_≢_}
 use mathlib.Core.List.{List, [], _∷_}
 use Prim.Native.Nat.{ℕ, _+_, _*_, _≤_, _<_}
 use lib.ListN.{length, getD}
+use Rattle.lists.specs.First.{First}
 use Rattle.residues.specs.Modulus.{Accepted}
 use Rattle.poly.specs.Polynomial.{Coefficients}
 use Rattle.refusals.specs.Answering.{Row, Told}
@@ -53,10 +54,8 @@ pub record FirstWrong (given wanted : List ℕ) (k : ℕ) : Type 0 where
   pub before : (j : ℕ) → j < at → getD given j 0 ≡ getD wanted j 0
 
 -- i is the index of the first coefficient that is p or more, or the number of places where there is none
-pub record FirstHigh (p : ℕ) (a : List ℕ) (i : ℕ) : Type 0 where
-  pub within : i ≤ length a
-  pub high : i < length a → p ≤ getD a i 0
-  pub before : (j : ℕ) → j < i → getD a j 0 < p
+abbrev pub FirstHigh : (p : ℕ) (a : List ℕ) (i : ℕ) → Type 0
+FirstHigh p a = First (length a) (λ j. p ≤ getD a j 0)
 
 -- the place 0
 abbrev pub Zero : ℕ → Type 0

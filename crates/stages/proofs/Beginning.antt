@@ -1,11 +1,11 @@
--- The first stage of the determinant of a matrix, and what the stages have in the end.
-use mathlib.Core.Path.{_≡_, sym, ap, subst, _∙_}
-use mathlib.Core.List.{List, _++_}
+-- The first stage of the determinant of a matrix.
+use mathlib.Core.Path.{_≡_, sym, ap, subst}
+use mathlib.Core.List.{List}
 use Prim.Native.Nat.{ℕ, suc, _-_, _*_, _≤_, _<_}
 use native.Mathlib.Nat as N
 use native.Mathlib.Omega.{arith}
-use lib.ListN.{length, take}
-use lib.Seq.{take-all, take-at, length-take-le}
+use lib.ListN.{take}
+use lib.Seq.{take-all}
 use Rattle.algebra.specs.Field.{Field}
 use Rattle.algebra.specs.Matrix.{Same}
 use Rattle.algebra.specs.Prime.{Prime}
@@ -16,41 +16,17 @@ use Rattle.algebra.proofs.Series.{series}
 use Rattle.lattice.specs.Row.{Row}
 use Rattle.lattice.proofs.Coefficients.{below-more}
 use Rattle.lists.specs.Skip.{skip}
-use Rattle.lists.proofs.Grid.{line-end, one-line}
 use Rattle.lists.proofs.Skip.{skip-low}
 use Rattle.determinant.specs.Determinant.{det}
 use Rattle.determinant.proofs.Stage.{stage-start}
 use Rattle.poly.specs.Reading.{Holds}
-use Rattle.buffers.specs.Diagonal.{Diagonal}
 use Rattle.buffers.specs.Held.{Held}
 use Rattle.buffers.proofs.Diagonal.{held-identity}
 use Rattle.buffers.proofs.Held.{held-bounded, held-matrix-same}
 use Rattle.buffers.proofs.Place.{by-rows}
-use Rattle.parting.specs.Parting.{PartAsked, Parted}
-use Rattle.parting.proofs.Parting.{one-column, held-next, held-column, column-cell}
-use Rattle.stages.specs.Lay.{LayAsked, Laid}
+use Rattle.parting.specs.Lay.{Laid}
+use Rattle.parting.proofs.Parting.{held-next, held-column, column-cell}
 use Rattle.stages.specs.Run.{FrontHeld}
-
-module _ {n w wide : ℕ} {a r column product : List ℕ} (asked : LayAsked n w wide a r column product) where
-  pub line-fits : (n - 1) * w ≤ length r
-  line-fits = omega (arith, asked .r-room, one-line n ((n - 1) * w) (asked .rows))
-
-  pub input-asked : PartAsked n w wide n a (take (n * ((n - 1) * w)) r) (take (n * wide) column)
-  input-asked = record {
-    columns = asked .rows;
-    inside = λ s ls. omega (arith, asked .size, line-end s n (n * w) ls, ap (λ (x : ℕ). x * (n * w)) (skip-low n s ls));
-    next-size = length-take-le _ r (asked .r-room);
-    column-size = length-take-le _ column (asked .column-room) ∙ sym (one-column n wide);
-    widened = asked .widened;
-  }
-
-  -- in front of what else there was
-  pub laid : {r′ column′ product′ : List ℕ} (beside under : List ℕ) → Parted n w wide n a r′ column′ → Diagonal 1 wide product′
-      → Laid n w wide a (r′ ++ beside) (column′ ++ under) product′
-  laid {r′} {column′} beside under parted one = record {
-    parted = rw (take-at r′ beside _ (parted .next-size), take-at column′ under _ (parted .column-size ∙ one-column n wide)) parted;
-    one = one;
-  }
 
 module _ {p : ℕ} (P : Prime p) {n w wide : ℕ} (rows : 0 < n) (places : 0 < w) (widened : w ≤ wide) (room : n * (w - 1) < wide)
     {A : ℕ → Row (Zp p)} {a r column product : List ℕ} (input : Held (by-rows n n w) p a A) (laid-out : Laid n w wide a r column product) where

@@ -6,7 +6,7 @@ use Prim.Native.Nat.{ℕ, suc, _+_, _-_, _*_, _≤_, _<_}
 use native.Mathlib.Nat as N
 use native.Mathlib.Omega.{arith}
 use lib.ListN.{length, getD, take, drop}
-use lib.Seq.{length-front, take-all, take-at, take-append-le, length-take-le}
+use lib.Seq.{length-front, take-all, take-append-le, length-take-le}
 use Rattle.algebra.specs.Field.{Field}
 use Rattle.algebra.specs.Polynomial.{Below}
 use Rattle.algebra.specs.Prime.{Prime}
@@ -26,14 +26,8 @@ use Rattle.parting.specs.Signed.{signedProduct, MultiplyAsked}
 use Rattle.parting.proofs.Parting.{column-cell}
 use Rattle.parting.proofs.Signed.{multiply-asked, holds-signed}
 use Rattle.stages.specs.Stage.{StageAsked, Staged}
-use Rattle.stages.specs.Run.{FrontHeld, Rooms, TurnAsked, Turned, RunAsked, Ran}
-
--- a stage is smaller than the one before it
-smaller : (m w : ℕ) → m * ((m - 1) * w) ≤ suc m * (m * w)
-smaller m w = N.mul-le-mul (N.le-suc m) (N.mul-le-mul-right w (N.sub-le m 1))
-
-fewer : (m wide : ℕ) → m * wide ≤ suc m * wide
-fewer m wide = N.mul-le-mul-right wide (N.le-suc m)
+use Rattle.stages.specs.Run.{FrontHeld, Rooms, RunAsked, Ran}
+use Rattle.stages.proofs.Turning.{smaller}
 
 -- the buffers keep their lengths, and a later stage has room where an earlier one had
 rooms-on : {m m′ w wide : ℕ} {r column next spare indices heights r′ column′ next′ spare′ indices′ heights′ : List ℕ} → m′ ≤ m
@@ -58,65 +52,6 @@ rooms-on {m} {m′} {w} {wide} le rooms r-same column-same next-same spare-same 
       next-room = omega (arith, rooms .next-room);
       index-room = omega (arith, rooms .index-room);
       degree-room = omega (arith, rooms .degree-room);
-    }
-
-module _ {p reciprocal m w wide budget : ℕ} {r column next product spare indices heights : List ℕ}
-    (asked : TurnAsked p reciprocal m w wide budget r column next product spare indices heights) where
-  open TurnAsked asked using (rooms)
-
-  pub less-fits : (m * ((m - 1) * w) ≤ length r) × (m * ((m - 1) * w) ≤ length next) × ((m - 1) * w ≤ m * w) × (m * w ≤ length spare)
-  less-fits = (
-    omega (arith, rooms .r-room, smaller m w),
-    omega (arith, rooms .next-room, smaller m w),
-    N.mul-le-mul-right w (N.sub-le m 1),
-    rooms .room .row-room,
-  )
-
-  -- they lie in the buffers still, when the stage has written to their fronts
-  pub r-still : (r′ : List ℕ) → length r′ ≡ length (take (suc m * (m * w)) r) → m * ((m - 1) * w) ≤ length (r′ ++ drop (suc m * (m * w)) r)
-  r-still r′ same = omega (arith, less-fits .0, length-front r r′ (suc m * (m * w)) same)
-
-  pub next-still : (next′ : List ℕ) → length next′ ≡ length (take (m * ((m - 1) * w)) next)
-      → m * ((m - 1) * w) ≤ length (next′ ++ drop (m * ((m - 1) * w)) next)
-  next-still next′ same = omega (arith, less-fits .1, length-front next next′ (m * ((m - 1) * w)) same)
-
-  pub stage-asked : StageAsked p reciprocal m w wide budget (take (suc m * (m * w)) r) (take (suc m * wide) column) (take (m * ((m - 1) * w)) next)
-      product spare indices heights
-  stage-asked = record {
-    ready = asked .ready;
-    prime = asked .prime;
-    columns = asked .columns;
-    room = rooms .room;
-    index-room = rooms .index-room;
-    degree-room = rooms .degree-room;
-    widened = rooms .widened;
-    next-size = length-take-le _ next (less-fits .1);
-    whole = asked .whole;
-    held = asked .held .front;
-  }
-
-  -- the stage is made: its buffers are in front of what else there was
-  module _ {next′ column′ product′ : List ℕ} {left : ℕ}
-      (staged : Staged p m w wide budget left (take (suc m * (m * w)) r) (take (suc m * wide) column) product next′ column′ product′)
-      (next-kept : length next′ ≡ length (take (m * ((m - 1) * w)) next)) (column-kept : length column′ ≡ length (take (suc m * wide) column))
-      (beside : List ℕ) where
-    next-size : length next′ ≡ m * ((m - 1) * w)
-    next-size = next-kept ∙ length-take-le _ next (less-fits .1)
-
-    taken : take (m * ((m - 1) * w)) (next′ ++ beside) ≡ next′
-    taken = take-at next′ beside _ next-size
-
-    -- its columns are put in front of r
-    pub turned : {r′ : List ℕ} → r′ ≡ take (m * ((m - 1) * w)) (next′ ++ beside) → (rest under : List ℕ)
-        → Turned p m w wide budget left r column product (r′ ++ rest) (column′ ++ under) product′
-    turned {r′} is rest under = record {
-      by = λ P whole h.
-          let one-less : suc (m - 1) ≡ m = omega (arith, asked .columns) in
-          let rows : take (suc (m - 1) * ((m - 1) * w)) (r′ ++ rest) ≡ next′ = rw one-less
-          (take-at r′ rest _ (ap length (is ∙ taken) ∙ next-size) ∙ is ∙ taken) in
-          let cells : take (suc (m - 1) * wide) (column′ ++ under) ≡ take (m * wide) column′ = rw one-less (take-append-le (m * wide) column′ under
-          (omega (arith, column-kept, length-take-le (suc m * wide) column (rooms .column-room), fewer m wide))) in
-          record { front = rw (rows, cells) (staged .by P whole (h .front)) };
     }
 
 -- a polynomial by itself
@@ -207,27 +142,65 @@ module _ {p reciprocal n w wide : ℕ} {r₀ column₀ next₀ product₀ spare�
     here : FrontHeld p (asked .prime) m w wide budget (asked .whole) r column product
     here = now .by (asked .prime) (asked .whole) (asked .held)
 
-    pub turn-asked : 0 < m → TurnAsked p reciprocal m w wide budget r column next product spare indices heights
-    turn-asked columns = record { ready = asked .ready; prime = asked .prime; columns = columns; rooms = rooms; whole = asked .whole; held = here }
+    -- where a stage lies in the buffers, and the columns of the next one
+    pub fits : (suc m * (m * w) ≤ length r) × (suc m * wide ≤ length column) × (m * ((m - 1) * w) ≤ length next) × (m * w ≤ length spare)
+        × ((m - 1) * w ≤ m * w) × (m < 8)
+    fits = (
+      rooms .r-room,
+      rooms .column-room,
+      omega (arith, rooms .next-room, smaller m w),
+      rooms .room .row-room,
+      N.mul-le-mul-right w (N.sub-le m 1),
+      rooms .room .columns-most,
+    )
 
-    pub staging-on : {budget′ : ℕ} {r′ column′ next′ product′ spare′ indices′ heights′ : List ℕ}
-        → Turned p m w wide budget budget′ r column product r′ column′ product′
-        → length r′ ≡ length r → length column′ ≡ length column → length next′ ≡ length next → length product′ ≡ length product
-        → length spare′ ≡ length spare → length indices′ ≡ length indices → length heights′ ≡ length heights
-        → Staging p reciprocal n w wide r₀ column₀ next₀ product₀ spare₀ indices₀ heights₀ r′ column′ next′ product′ spare′ indices′ heights′
-        (m - 1) budget′
-    staging-on turned a b c d e f g = record {
-      asked = asked;
-      reached = omega (arith, now .reached);
-      by = λ P whole h. turned .by P whole (now .by P whole h);
-      r-same = a ∙ now .r-same;
-      column-same = b ∙ now .column-same;
-      next-same = c ∙ now .next-same;
-      product-same = d ∙ now .product-same;
-      spare-same = e ∙ now .spare-same;
-      index-same = f ∙ now .index-same;
-      degree-same = g ∙ now .degree-same;
+    pub stage-asked : 0 < m → StageAsked p reciprocal m w wide budget (take (suc m * (m * w)) r) (take (suc m * wide) column)
+        (take (m * ((m - 1) * w)) next) product spare indices heights
+    stage-asked columns = record {
+      ready = asked .ready;
+      prime = asked .prime;
+      columns = columns;
+      room = rooms .room;
+      index-room = rooms .index-room;
+      degree-room = rooms .degree-room;
+      widened = rooms .widened;
+      next-size = length-take-le _ next (fits .2);
+      whole = asked .whole;
+      held = here .front;
     }
+
+    -- the stage is made, in front of what else there was
+    module _ (columns : 0 < m) {budget′ : ℕ} {r′ column′ product′ : List ℕ}
+        (staged : Staged p m w wide budget budget′ (take (suc m * (m * w)) r) (take (suc m * wide) column) product r′ column′ product′)
+        (r-kept : length r′ ≡ length (take (suc m * (m * w)) r)) (column-kept : length column′ ≡ length (take (suc m * wide) column))
+      where
+        one-less : suc (m - 1) ≡ m
+        one-less = omega arith
+
+        rows : (rest : List ℕ) → take (suc (m - 1) * ((m - 1) * w)) (r′ ++ rest) ≡ take (m * ((m - 1) * w)) r′
+        rows rest = rw one-less (take-append-le (m * ((m - 1) * w)) r′ rest (omega (arith, r-kept, length-take-le _ r (fits .0), smaller m w)))
+
+        cells : (rest : List ℕ) → take (suc (m - 1) * wide) (column′ ++ rest) ≡ take (m * wide) column′
+        cells rest = rw one-less
+            (take-append-le (m * wide) column′ rest (omega (arith, column-kept, length-take-le _ column (fits .1), N.mul-le-mul-right wide (N.le-suc m))))
+
+        pub staging-on : {spare′ indices′ heights′ : List ℕ} (next′ : List ℕ) → length next′ ≡ length (take (m * ((m - 1) * w)) next)
+            → length product′ ≡ length product → length spare′ ≡ length spare → length indices′ ≡ length indices
+            → length heights′ ≡ length heights
+            → Staging p reciprocal n w wide r₀ column₀ next₀ product₀ spare₀ indices₀ heights₀ (r′ ++ drop (suc m * (m * w)) r)
+            (column′ ++ drop (suc m * wide) column) (next′ ++ drop (m * ((m - 1) * w)) next) product′ spare′ indices′ heights′ (m - 1) budget′
+        staging-on next′ next-kept d e f g = record {
+          asked = asked;
+          reached = omega (arith, now .reached);
+          by = λ P whole h. record { front = rw (rows _, cells _) (staged .by P whole (now .by P whole h .front)) };
+          r-same = length-front r r′ (suc m * (m * w)) r-kept ∙ now .r-same;
+          column-same = length-front column column′ (suc m * wide) column-kept ∙ now .column-same;
+          next-same = length-front next next′ (m * ((m - 1) * w)) next-kept ∙ now .next-same;
+          product-same = d ∙ now .product-same;
+          spare-same = e ∙ now .spare-same;
+          index-same = f ∙ now .index-same;
+          degree-same = g ∙ now .degree-same;
+        }
 
     -- no column is left beside the parted one
     module _ (none : m ≡ 0) where

@@ -1,4 +1,4 @@
-pub mod Reducing
-pub mod Turning
-pub mod Fronts
-pub mod Beginning
+mod Turning
+mod Fronts
+mod Beginning
+mod Whole

@@ -1,12 +1,12 @@
 -- The end of a stage: a row is taken out, and the next stage begins.
-use mathlib.Core.Path.{_≡_, sym, ap, subst, _∙_}
+use mathlib.Core.Path.{_≡_, refl, sym, ap, subst, _∙_}
 use mathlib.Core.List.{List, _++_}
 use Prim.Native.Nat.{ℕ, suc, _+_, _-_, _*_, _%_, _≤_, _<_}
 use native.Mathlib.Nat as N
 use native.Mathlib.Omega.{arith}
 use lib.Dec.{eqb}
 use lib.ListN.{length, getD, take}
-use lib.Seq.{take-at, length-take-le}
+use lib.Seq.{take-at}
 use Rattle.algebra.specs.Field.{Field}
 use Rattle.algebra.specs.Prime.{Prime}
 use Rattle.algebra.specs.Residue.{Zp}
@@ -20,7 +20,6 @@ use Rattle.lattice.proofs.Coefficients.{below-more}
 use Rattle.lists.specs.Part.{part}
 use Rattle.lists.specs.Skip.{skip}
 use Rattle.lists.specs.Total.{total}
-use Rattle.lists.proofs.Grid.{line-end}
 use Rattle.lists.proofs.Skip.{skip-fits}
 use Rattle.lists.proofs.Total.{total-same}
 use Rattle.determinant.specs.Determinant.{without, sign-at, with-entry}
@@ -36,14 +35,18 @@ use Rattle.reduction.specs.Pair.{NoPair}
 use Rattle.reduction.proofs.Index.{index-some}
 use Rattle.reduction.proofs.Pair.{no-pair-same}
 use Rattle.pivots.specs.Pivot.{valuesOf, degreesOf, Pivots}
-use Rattle.parting.specs.Parting.{PartAsked, Parted}
+use Rattle.following.specs.Columns.{Room, ReduceAsked, ColumnsReduced}
+use Rattle.following.proofs.Reducing.{agree, room-kept}
+use Rattle.parting.specs.Parting.{Parted}
 use Rattle.parting.specs.Signed.{signed, signedProduct, MultiplyAsked}
-use Rattle.parting.specs.Stages.{LowestZero, SlackAsked}
-use Rattle.parting.proofs.Parting.{one-column, part-asked, held-next, held-column, column-cell}
+use Rattle.parting.specs.TakingOut.{LowestZero, negative, TakeAsked, TakenOut}
+use Rattle.parting.proofs.Parting.{held-next, held-column, column-cell}
 use Rattle.parting.proofs.Signed.{multiply-asked, holds-signed}
-use Rattle.stages.specs.Columns.{Room, ReduceAsked, ColumnsReduced}
-use Rattle.stages.specs.Stage.{StageHeld, TakeAsked, TakenOut, StageAsked, Staged}
-use Rattle.stages.proofs.Reducing.{agree, within-budget, room-kept}
+use Rattle.stages.specs.Stage.{StageHeld, StageAsked, Staged}
+
+-- a stage is smaller than the one before it
+pub smaller : (m w : ℕ) → m * ((m - 1) * w) ≤ suc m * (m * w)
+smaller m w = N.mul-le-mul (N.le-suc m) (N.mul-le-mul-right w (N.sub-le m 1))
 
 -- the sign of an index, by whether it is odd
 sign-is : {F : Type 0} (R : CommRing F) (j : ℕ) (x : F) → signed R (eqb (j % 2) 1) x ≡ R .mul (sign-at R j) x
@@ -53,7 +56,7 @@ sign-is R j x = case-le 1 (j % 2)
 
 -- buffers of a stage to whose rows no step applies, of which row k is the lowest zero one
 module _ {p : ℕ} (P : Prime p) {m w wide budget : ℕ} (columns : 0 < m) {whole : ℕ → Zp p} {r column product : List ℕ}
-    (held : StageHeld p P m w wide budget whole r column product) {indices : List ℕ}
+    (held : StageHeld p P m w wide budget whole r column product) (indices : List ℕ)
     (indices-are : (i : ℕ) → i < suc m → getD indices i 0 ≡ index m (valuesOf m w r i)) (none : NoPair (suc m) m (valuesOf m w r))
     {k : ℕ} (lowest : LowestZero (suc m) indices k) where
   abbrev K : Field (Zp p)
@@ -70,23 +73,20 @@ module _ {p : ℕ} (P : Prime p) {m w wide budget : ℕ} (columns : 0 < m) {whol
   row-fits =
       let x = zero-row K m w T (held .rows .stage .bounded) (no-pair-same (suc m) m _ _ (agree P columns (held .rows)) none) in
       case-le k (x .at) (λ before. omega (arith, x .fits))
-      (λ past. absurd (lowest .lowest (x .at) past (indexed-by (x .at) (x .fits) ∙ ap (index m) (x .holds))))
+      (λ past. absurd (lowest .before (x .at) past (indexed-by (x .at) (x .fits) ∙ ap (index m) (x .holds))))
 
   row-none : values K m w T k ≡ 0
   row-none = case-le 1 (values K m w T k)
-      (λ some. absurd (omega (arith, index-some m (values K m w T k) some, indexed-by k row-fits, lowest .zero row-fits)))
+      (λ some. absurd (omega (arith, index-some m (values K m w T k) some, indexed-by k row-fits, lowest .here row-fits)))
       (λ zero. omega arith)
 
-  -- where the entry of row k stands
-  entry-fits : k * wide + wide ≤ length column
-  entry-fits = omega (arith, held .rows .parted .size, one-column (suc m) wide, line-end k (suc m) wide row-fits)
-
+  -- its entry in the parted column
   entry : Holds p (part (k * wide) wide column) (T k m)
   entry = column-cell (held .rows .parted) k row-fits
 
-  entry-asked : {reciprocal : ℕ} {spare : List ℕ} → Ready p reciprocal → Room m w wide spare
+  pub factor-asked : {reciprocal : ℕ} {spare : List ℕ} → Ready p reciprocal → Room m w wide spare
       → MultiplyAsked p reciprocal product (part (k * wide) wide column) spare
-  entry-asked ready room = multiply-asked p P (held .so-far) entry ready
+  factor-asked ready room = multiply-asked p P (held .so-far) entry ready
       (below-more (K .ring) _ _ _ (omega (arith, held .size, room .places))
       (stage-product K w (wide - 1) whole (held .rows .stage) k row-fits row-none))
       (omega (arith, held .size, room .places-most)) (omega (arith, held .size, room .cell-room))
@@ -94,14 +94,10 @@ module _ {p : ℕ} (P : Prime p) {m w wide budget : ℕ} (columns : 0 < m) {whol
   left : (s : ℕ) → s < m → skip k s < suc m
   left s ls = skip-fits m k s ls
 
-  rows-asked : {next cells : List ℕ} → length next ≡ m * ((m - 1) * w) → length cells ≡ m * (1 * wide) → w ≤ wide
-      → PartAsked m w wide k r next cells
-  rows-asked = part-asked (held .rows .matrix) left columns
-
   -- the next stage
   module _ {reciprocal : ℕ} {spare : List ℕ} (asked : MultiplyAsked p reciprocal product (part (k * wide) wide column) spare)
       {next cells product′ : List ℕ} (widened : w ≤ wide) (parted : Parted m w wide k r next cells)
-      (made : product′ ≡ signedProduct p (eqb ((k + m) % 2) 1) product (part (k * wide) wide column)) (same : length product′ ≡ length product) where
+      (made : product′ ≡ signedProduct p (negative m k) product (part (k * wide) wide column)) (same : length product′ ≡ length product) where
     one-less : suc (m - 1) ≡ m
     one-less = omega arith
 
@@ -121,36 +117,8 @@ module _ {p : ℕ} (P : Prime p) {m w wide budget : ℕ} (columns : 0 < m) {whol
       };
       size = same ∙ held .size;
       so-far = rw (made, ← sign-is (series (K .ring)) (k + m) (series (K .ring) .mul (held .f) (T k m)))
-          (holds-signed p P (held .so-far) entry (asked .product) (eqb ((k + m) % 2) 1));
+          (holds-signed p P (held .so-far) entry (asked .product) (negative m k));
     }
-
-module _ {p reciprocal m w wide : ℕ} {r column next product spare indices : List ℕ}
-    (asked : TakeAsked p reciprocal m w wide r column next product spare indices) where
-  -- the cells that the next stage has
-  pub cells-fit : m * wide ≤ length column
-  cells-fit = omega (arith, asked .held .rows .parted .size, one-column (suc m) wide, N.mul-le-mul-right wide (N.le-suc m))
-
-  -- where row k is found
-  module _ {k : ℕ} (lowest : LowestZero (suc m) indices k) where
-    pub factor-fits : k * wide + wide ≤ length column
-    factor-fits = entry-fits (asked .prime) (asked .columns) (asked .held) (asked .indices-are) (asked .none) lowest
-
-    pub factor-asked : MultiplyAsked p reciprocal product (part (k * wide) wide column) spare
-    factor-asked = entry-asked (asked .prime) (asked .columns) (asked .held) (asked .indices-are) (asked .none) lowest (asked .ready) (asked .room)
-
-    pub parting-asked : PartAsked m w wide k r next (take (m * wide) column)
-    parting-asked = rows-asked (asked .prime) (asked .columns) (asked .held) (asked .indices-are) (asked .none) lowest (asked .next-size)
-        (length-take-le (m * wide) column cells-fit ∙ sym (one-column m wide)) (asked .widened)
-
-    -- it is left to the next stage in front of what else was in `column`
-    module _ {next′ cells product′ : List ℕ} (rest : List ℕ) (parted : Parted m w wide k r next′ cells)
-        (made : product′ ≡ signedProduct p (eqb ((k + m) % 2) 1) product (part (k * wide) wide column))
-        (same : length product′ ≡ length product) where
-      pub taken-out : (budget : ℕ) → Staged p m w wide budget (total (suc m) (degreesOf m w r)) r column product next′ (cells ++ rest) product′
-      taken-out budget = record {
-        by = λ P whole h. rw (take-at cells rest (m * wide) (parted .column-size ∙ one-column m wide))
-            (turned P (asked .columns) h (asked .indices-are) (asked .none) lowest factor-asked (asked .widened) parted made same);
-      }
 
 -- the parts of a whole stage
 module _ {p reciprocal m w wide budget : ℕ} {r column next product spare indices heights : List ℕ}
@@ -171,43 +139,46 @@ module _ {p reciprocal m w wide budget : ℕ} {r column next product spare indic
     held = asked .held .rows;
   }
 
-  module _ {r′ column′ indices′ heights′ : List ℕ} (reduced : ColumnsReduced p m w wide budget r column r′ column′ indices′ heights′) where
+  module _ {left : ℕ} {r′ column′ indices′ heights′ : List ℕ}
+      (reduced : ColumnsReduced p m w wide budget left r column r′ column′ indices′ heights′) where
     on : (P : Prime p) (whole : ℕ → Zp p) → StageHeld p P m w wide budget whole r column product
         → StageHeld p P m w wide budget whole r′ column′ product
     on P whole h = record { f = h .f; rows = reduced .by P whole (h .f) (h .rows); size = h .size; so-far = h .so-far }
 
+    reduced-held : StageHeld p (asked .prime) m w wide budget (asked .whole) r′ column′ product
+    reduced-held = on (asked .prime) (asked .whole) (asked .held)
+
+    indices-are : (i : ℕ) → i < suc m → getD indices′ i 0 ≡ index m (valuesOf m w r′ i)
+    indices-are i li = reduced .pivots .row i li .index-is
+
+    entry-asked : {spare′ : List ℕ} → length spare′ ≡ length spare → (k : ℕ) → LowestZero (suc m) indices′ k
+        → MultiplyAsked p reciprocal product (part (k * wide) wide column′) spare′
+    entry-asked x k lowest = factor-asked (asked .prime) (asked .columns) reduced-held indices′ indices-are (reduced .none) lowest (asked .ready)
+        (room-kept (asked .room) x)
+
     pub take-asked : {spare′ : List ℕ} → length spare′ ≡ length spare → length indices′ ≡ length indices
         → TakeAsked p reciprocal m w wide r′ column′ next product spare′ indices′
     take-asked x y = record {
-      ready = asked .ready;
-      prime = asked .prime;
       columns = asked .columns;
-      room = room-kept (asked .room) x;
-      index-room = omega (arith, asked .index-room);
       widened = asked .widened;
+      r-size = reduced-held .rows .matrix .size;
+      column-size = reduced-held .rows .parted .size;
       next-size = asked .next-size;
-      indices-are = λ i li. reduced .pivots .row i li .index-is;
-      none = reduced .none;
-      budget = budget;
-      whole = asked .whole;
-      held = on (asked .prime) (asked .whole) (asked .held);
+      index-room = omega (arith, asked .index-room);
+      row = λ k lowest. (row-fits (asked .prime) (asked .columns) reduced-held indices′ indices-are (reduced .none) lowest, entry-asked x k lowest);
     }
 
-    pub sum-asked : length heights′ ≡ length heights → SlackAsked (suc m) budget heights′
-    sum-asked y = record {
-      room = omega (arith, asked .degree-room);
-      enough = within-budget (asked .prime) (asked .columns) (on (asked .prime) _ (asked .held) .rows) (reduced .pivots);
-    }
+    -- the columns of the next stage have room in front of r
+    pub front-room : (next′ : List ℕ) → length next′ ≡ length next → length next′ ≤ length r′
+    front-room next′ same = omega (arith, same, asked .next-size, reduced-held .rows .matrix .size, smaller m w)
 
-    pub staged : {next′ column″ product′ : List ℕ} {left : ℕ} → TakenOut p m w wide r′ column′ product next′ column″ product′
-        → length heights′ ≡ length heights → left ≡ budget - total (suc m) (λ i. getD heights′ i 0 - 1)
-        → Staged p m w wide budget (budget - left) r column product next′ column″ product′
-    staged {left = left} taken y is = record {
+    -- and are put there
+    pub staged : {next′ column″ product′ front : List ℕ} (rest : List ℕ)
+        → TakenOut p m w wide r′ column′ product indices′ next′ column″ product′ → length product′ ≡ length product → front ≡ next′
+        → Staged p m w wide budget left r column product (front ++ rest) column″ product′
+    staged {front = front} rest taken same is = record {
       by = λ P whole h.
-          let sum : budget - left ≡ total (suc m) (degreesOf m w r′) = omega (
-            arith,
-            sum-asked y .enough,
-            total-same (suc m) _ _ (λ i li. ap (λ (x : ℕ). x - 1) (reduced .pivots .row i li .degree-is)),
-          ) in
-          rw sum (taken budget .by P whole (on P whole h));
+          rw (reduced .together, take-at front rest (m * ((m - 1) * w)) (ap length is ∙ taken .parted .next-size), is)
+          (turned P (asked .columns) (on P whole h) indices′ indices-are (reduced .none) (taken .lowest) (entry-asked {spare′ = spare} refl (taken .k) (taken .lowest))
+          (asked .widened) (taken .parted) (taken .factor) same);
     }

@@ -1,4 +1,3 @@
-pub mod Columns
 pub mod Stage
 pub mod Run
-pub mod Lay
+pub mod Determinant

@@ -7,7 +7,7 @@ use Rattle.algebra.specs.Residue.{Zp}
 use Rattle.buffers.specs.Held.{Held}
 use Rattle.buffers.proofs.Place.{by-rows}
 use Rattle.residues.specs.Modulus.{Ready}
-use Rattle.stages.specs.Columns.{Room}
+use Rattle.following.specs.Columns.{Room}
 use Rattle.stages.specs.Stage.{StageHeld}
 
 -- a stage of m columns in the front of buffers that have room for more
@@ -23,20 +23,6 @@ pub record Rooms (m w wide : ℕ) (r column next spare indices degrees : List �
   pub next-room : suc m * (m * w) ≤ length next
   pub index-room : suc m ≤ length indices
   pub degree-room : suc m ≤ length degrees
-
--- a stage, where there are columns left beside the parted one
-pub record TurnAsked (p reciprocal m w wide budget : ℕ) (r column next product spare indices degrees : List ℕ) : Type 0 where
-  pub ready : Ready p reciprocal
-  pub prime : Prime p
-  pub columns : 0 < m
-  pub rooms : Rooms m w wide r column next spare indices degrees
-  pub whole : ℕ → Zp p
-  pub held : FrontHeld p prime m w wide budget whole r column product
-
--- whatever stage the buffers were of, they are of the next one
-pub record Turned (p m w wide budget budget′ : ℕ) (r column product r′ column′ product′ : List ℕ) : Type 0 where
-  pub by : (P : Prime p) (whole : ℕ → Zp p) → FrontHeld p P m w wide budget whole r column product
-      → FrontHeld p P (m - 1) w wide budget′ whole r′ column′ product′
 
 -- the first stage of n rows
 pub record RunAsked (p reciprocal n w wide : ℕ) (r column next product spare indices degrees : List ℕ) : Type 0 where

@@ -2,16 +2,12 @@
 use mathlib.Core.Path.{_≡_}
 use mathlib.Core.List.{List}
 use Prim.Native.Nat.{ℕ, suc, _*_, _-_, _≤_, _<_}
-use lib.ListN.{length, getD, take}
+use lib.ListN.{length, take}
 use Rattle.algebra.specs.Prime.{Prime}
 use Rattle.algebra.specs.Residue.{Zp}
-use Rattle.lists.specs.Total.{total}
-use Rattle.reduction.specs.Pivot.{index}
-use Rattle.reduction.specs.Pair.{NoPair}
-use Rattle.pivots.specs.Pivot.{valuesOf, degreesOf}
 use Rattle.residues.specs.Modulus.{Ready}
 use Rattle.poly.specs.Reading.{Holds}
-use Rattle.stages.specs.Columns.{RowsHeld, Room}
+use Rattle.following.specs.Columns.{RowsHeld, Room}
 
 -- the buffers of the stage of m columns, of which `product` has the product so far, in as many places as a cell of the parted column
 pub record StageHeld (p : ℕ) (P : Prime p) (m w wide budget : ℕ) (whole : ℕ → Zp p) (r column product : List ℕ) : Type 0 where
@@ -33,28 +29,8 @@ pub record StageAsked (p reciprocal m w wide budget : ℕ) (r column next produc
   pub whole : ℕ → Zp p
   pub held : StageHeld p prime m w wide budget whole r column product
 
--- whatever stage the buffers were of, they are of the next one, with one row and one column less: `next` has its columns, and the
--- first cells of `column` are the one that is parted from them
-pub record Staged (p m w wide budget budget′ : ℕ) (r column product next′ column′ product′ : List ℕ) : Type 0 where
+-- whatever stage the buffers were of, they are of the next one, with one row and one column less: its columns stand in front of r, and
+-- the first cells of `column` are the one that is parted from them
+pub record Staged (p m w wide budget budget′ : ℕ) (r column product r′ column′ product′ : List ℕ) : Type 0 where
   pub by : (P : Prime p) (whole : ℕ → Zp p) → StageHeld p P m w wide budget whole r column product
-      → StageHeld p P (m - 1) w wide budget′ whole next′ (take (m * wide) column′) product′
-
--- no step applies to such buffers
-pub record TakeAsked (p reciprocal m w wide : ℕ) (r column next product spare indices : List ℕ) : Type 0 where
-  pub ready : Ready p reciprocal
-  pub prime : Prime p
-  pub columns : 0 < m
-  pub room : Room m w wide spare
-  pub index-room : suc m ≤ length indices
-  pub widened : w ≤ wide
-  pub next-size : length next ≡ m * ((m - 1) * w)
-  pub indices-are : (i : ℕ) → i < suc m → getD indices i 0 ≡ index m (valuesOf m w r i)
-  pub none : NoPair (suc m) m (valuesOf m w r)
-  pub budget : ℕ
-  pub whole : ℕ → Zp p
-  pub held : StageHeld p prime m w wide budget whole r column product
-
--- whatever their budget was, the next one is what the pivot degrees are together
-abbrev pub TakenOut : (p m w wide : ℕ) (r column product next′ column′ product′ : List ℕ) → Type 0
-TakenOut p m w wide r column product next′ column′ product′ =
-    (budget : ℕ) → Staged p m w wide budget (total (suc m) (degreesOf m w r)) r column product next′ column′ product′
+      → StageHeld p P (m - 1) w wide budget′ whole (take (m * ((m - 1) * w)) r′) (take (m * wide) column′) product′

@@ -1,3 +1,4 @@
+use native.Mathlib.Nat.{lt-of-not-le}
 use native.Mathlib.Omega.{arith}
 use borrow.Author.Needs.{needs}
 use Rattle.checking.proofs.Verdicts.{high-coefficient, all-right}
@@ -13,7 +14,7 @@ returns c = λ determinant n m d given wanted numbers square same.
 
 returns-2 : tie.Need-returns-2
 returns-2 c = λ determinant n m d given wanted numbers square same.
-    all-right determinant _ _ _ _ _ _ _ numbers square same record { below = λ i h. c .before .first-high .ensures .before i (omega arith) }
+    all-right determinant _ _ _ _ _ _ _ numbers square same record { below = λ i h. lt-of-not-le (c .before .first-high .ensures .before i (omega arith)) }
 
 pub check-coefficients-spec : {M : Type 1} → statement M
 check-coefficients-spec = tie.close (tie.spec first-high-requires returns returns-2)

@@ -1,19 +1,19 @@
 use borrow.Author.Needs.{needs}
 use native.Mathlib.Omega.{arith}
-use Prim.Native.Nat.{ℕ, _-_, _≤_, _<_}
+use Prim.Native.Nat.{_-_, _≤_}
 use lib.ListN.{length, getD}
-use borrow.Author.Count.{below-more}
+use Rattle.lists.proofs.First.{Seeking, seeking-start, seeking-on, seeking-found, seeking-end}
 use Rattle.checking.proofs.first_high.Statement.{statement}
 use Rattle.checking.proofs.first_high.Tie as tie
 
 abbrev Inv-loop : tie.InvT-loop
-Inv-loop a p i₀ i = (i ≤ length a) × ((j : ℕ) → j < i → getD a j 0 < p)
+Inv-loop a p i₀ i = Seeking (length a) (λ j. p ≤ getD a j 0) i
 
 abbrev μ-loop : tie.MeasureT-loop
 μ-loop a p i₀ i = length a - i
 
 loop-holds : tie.Need-loop-holds Inv-loop μ-loop
-loop-holds c = (omega arith, λ j h. absurd (omega arith))
+loop-holds c = seeking-start
 
 mul-wide : tie.Need-mul-wide Inv-loop μ-loop
 mul-wide c = omega arith
@@ -25,9 +25,7 @@ wide-requires : tie.Need-wide-requires Inv-loop μ-loop
 wide-requires c κs = search needs
 
 returns : tie.Need-returns Inv-loop μ-loop
-returns c =
-    let inv = c .before .before .before .before .loop .inv in
-    record { within = inv .0; high = λ h. omega (arith, c .before .wide .ensures, c .if1 .taken); before = inv .1 }
+returns c = seeking-found (c .before .before .before .before .loop .inv) (omega (arith, c .before .wide .ensures, c .if1 .taken))
 
 add-i : tie.Need-add-i Inv-loop μ-loop
 add-i c = omega arith
@@ -37,11 +35,11 @@ loop-less c = omega arith
 
 loop-again : tie.Need-loop-again Inv-loop μ-loop
 loop-again c =
-    let inv = c .before .before .before .before .loop .inv in
-    (omega arith, below-more _ _ (inv .1) (omega (arith, c .before .wide .ensures, c .if1 .left)))
+    let here = c .before .before .before in
+    seeking-on (here .before .loop .inv) (here .loop-test .taken) (λ high. omega (arith, high, c .before .wide .ensures, c .if1 .left))
 
 returns-2 : tie.Need-returns-2 Inv-loop μ-loop
-returns-2 c = let inv = c .before .loop .inv in record { within = inv .0; high = λ h. absurd (omega arith); before = inv .1 }
+returns-2 c = seeking-end (c .before .loop .inv) (omega arith)
 
 pub first-high-spec : {M : Type 1} → statement M
 first-high-spec =

@@ -4,7 +4,7 @@ use denote.Ref.{now}
 use Rattle.residues.proofs.Range.{in-range}
 use Rattle.refusals.specs.Refused.{Verdict}
 use Rattle.refusals.proofs.Answering.{answer-refused}
-use Rattle.matrix.proofs.DeterminantService.{DeterminantPassed, determinant-order, work-asked, determinant-answered}
+use Rattle.matrix.proofs.DeterminantService.{DeterminantPassed, determinant-order, determinant-asked, determinant-answered}
 use borrow.Author.Needs.{needs}
 use Rattle.matrix.proofs.determining.determinant.Statement.{statement}
 use Rattle.matrix.proofs.determining.determinant.Tie as tie
@@ -29,14 +29,14 @@ enum-told c = search needs
 of-requires : tie.Need-of-requires
 of-requires c κs = in-range (determinant-order (known (c .before)) .numbers .modulus)
 
-work-requires : tie.Need-work-requires
-work-requires c κs = work-asked (known (c .before .before)) (c .of .ensures .0) (c .of .ensures .1)
+determinant-requires : tie.Need-determinant-requires
+determinant-requires c κs = determinant-asked (known (c .before .before)) (c .of .ensures .0) (c .of .ensures .1)
 
 same-length : tie.Need-same-length
 same-length c = search needs
 
 returns-2 : tie.Need-returns-2
-returns-2 c = determinant-answered (known (c .before .before .before .before .before)) _ _ (c .before .before .before .of .ensures .0) (c .before .before .work .ensures)
+returns-2 c = determinant-answered (known (c .before .before .before .before .before)) _ _ (c .before .before .before .of .ensures .0) (c .before .before .determinant .ensures)
 
 pub determinant-spec : {M : Type 1} → statement M
 determinant-spec =
@@ -47,6 +47,6 @@ determinant-spec =
     returns
     enum-told
     of-requires
-    work-requires
+    determinant-requires
     same-length
     returns-2)

@@ -1,11 +1,12 @@
 use borrow.Author.Needs.{needs}
 use native.Mathlib.Numerals.{add-one}
-use native.Mathlib.Omega.{arith}
-use mathlib.Core.Path.{_≡_, _∙_}
+use mathlib.Core.Path.{_≡_, sym, _∙_}
+use Prim.Native.Nat.{_≤_}
 use denote.Ref.{now}
 use lib.ListN.{length}
+use lib.Seq.{length-take-le}
 use Rattle.stages.specs.Stage.{StageAsked}
-use Rattle.stages.proofs.Turning.{reduce-asked, take-asked, sum-asked, staged}
+use Rattle.stages.proofs.Turning.{reduce-asked, take-asked, front-room, staged}
 use Rattle.stages.proofs.stage.stage.Statement.{statement}
 use Rattle.stages.proofs.stage.stage.Tie as tie
 
@@ -38,16 +39,20 @@ take-out-requires c κs =
     let reduced = c .before .before .before .before .before .before .before .before .before .before .before .before .before .before .before .before in
     take-asked (asked (reduced .before .before .before .before .before .before .before .before .before .before)) (reduced .reduce-columns .ensures) (reduced .reduce-columns .kept .1 .1 .0) (indices-kept reduced)
 
-add-slack : tie.Need-add-slack
-add-slack c = omega (arith, asked (c .before .before .before .before .before .before .before .before .before .before .before .before .before .before .before .before .before .before .before .before .before .before .before .before .before .before .before .before .before .before .before .before .before .before .before .before) .room .columns-most)
+-- the columns of the next stage have room in front of r
+fits : (c : tie.After-take-out) → length (c .take-out .last .1 .1 .0) ≤ length (c .before .before .before .before .before .before .before .before .before .before .before .before .before .before .before .before .before .reduce-columns .last .0)
+fits c =
+    let reduced = c .before .before .before .before .before .before .before .before .before .before .before .before .before .before .before .before .before in
+    front-room (asked (reduced .before .before .before .before .before .before .before .before .before .before)) (reduced .reduce-columns .ensures) (c .take-out .last .1 .1 .0) (c .take-out .kept .1 .1 .0)
 
-slack-requires : tie.Need-slack-requires
-slack-requires c κs =
-    let reduced = c .before .before .before .before .before .before .before .before .before .before .before .before .before .before .before .before .before .before .before .before .before .before .before .before .before .before in
-    rw add-one (sum-asked (asked (reduced .before .before .before .before .before .before .before .before .before .before)) (reduced .reduce-columns .ensures) (degrees-kept reduced))
+slice-relend-prefix-copy : tie.Need-slice-relend-prefix-copy
+slice-relend-prefix-copy c = fits (c .before .before .before .before .before .before .before .before .before)
 
-sub-result : tie.Need-sub-result
-sub-result c = search needs
+slice-aggregate-copy : tie.Need-slice-aggregate-copy
+slice-aggregate-copy c = sym (length-take-le _ _ (fits (c .before .before .before .before .before .before .before .before .before .before)))
+
+copy-requires : tie.Need-copy-requires
+copy-requires c κs = sym (length-take-le _ _ (fits (c .before .before .before .before .before .before .before .before .before .before)))
 
 same-length : tie.Need-same-length
 same-length c = search needs
@@ -65,16 +70,17 @@ same-length-5 : tie.Need-same-length-5
 same-length-5 c = search needs
 
 same-length-6 : tie.Need-same-length-6
-same-length-6 c = indices-kept (c .before .before .before .before .before .before .before .before .before .before .before .before .before .before .before .before .before .before .before .before .before .before .before .before .before .before .before)
+same-length-6 c = indices-kept (c .before .before .before .before .before .before .before .before .before .before .before .before .before .before .before .before .before .before .before .before .before .before .before .before .before .before .before .before .before .before)
 
 same-length-7 : tie.Need-same-length-7
-same-length-7 c = search needs
+same-length-7 c = degrees-kept (c .before .before .before .before .before .before .before .before .before .before .before .before .before .before .before .before .before .before .before .before .before .before .before .before .before .before .before .before .before .before)
 
 returns : tie.Need-returns
 returns c =
-    let taken = c .before .before .before .before .before .before .before .before .before .before in
+    let copied = c .before .before in
+    let taken = copied .before .before .before .before .before .before .before .before .before .before .before in
     let reduced = taken .before .before .before .before .before .before .before .before .before .before .before .before .before .before .before .before .before in
-    staged (asked (reduced .before .before .before .before .before .before .before .before .before .before)) (reduced .reduce-columns .ensures) (taken .take-out .ensures) (degrees-kept reduced) (rw add-one at (c .slack .ensures))
+    staged (asked (reduced .before .before .before .before .before .before .before .before .before .before)) (reduced .reduce-columns .ensures) _ (taken .take-out .ensures) (taken .take-out .kept .1 .1 .1 .0) (copied .copy .ensures)
 
 pub stage-spec : {M : Type 1} → statement M
 stage-spec =
@@ -84,9 +90,9 @@ stage-spec =
     all-requires
     reduce-columns-requires
     take-out-requires
-    add-slack
-    slack-requires
-    sub-result
+    slice-relend-prefix-copy
+    slice-aggregate-copy
+    copy-requires
     same-length
     same-length-2
     same-length-3

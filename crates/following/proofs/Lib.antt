@@ -1,0 +1,2 @@
+mod Followed
+pub mod Reducing

@@ -1,0 +1,103 @@
+use mathlib.Core.Path.{_∙_}
+use Rattle.stages.proofs.Whole.{lay-asked, stages-asked, is-determinant}
+use borrow.Author.Needs.{needs}
+use Rattle.stages.proofs.determinant.Statement.{statement}
+use Rattle.stages.proofs.determinant.Tie as tie
+
+add-w : tie.Need-add-w
+add-w c = search needs
+
+mul-wide : tie.Need-mul-wide
+mul-wide c = search needs
+
+add-wide : tie.Need-add-wide
+add-wide c = search needs
+
+columns-requires : tie.Need-columns-requires
+columns-requires c κs = search needs
+
+columns-requires-2 : tie.Need-columns-requires-2
+columns-requires-2 c κs = search needs
+
+cells-requires : tie.Need-cells-requires
+cells-requires c κs = search needs
+
+room-requires : tie.Need-room-requires
+room-requires c κs = search needs
+
+eight-requires : tie.Need-eight-requires
+eight-requires c κs = search needs
+
+eight-requires-2 : tie.Need-eight-requires-2
+eight-requires-2 c κs = search needs
+
+slice-aggregate-lay : tie.Need-slice-aggregate-lay
+slice-aggregate-lay c = search needs
+
+slice-aggregate-lay-2 : tie.Need-slice-aggregate-lay-2
+slice-aggregate-lay-2 c = search needs
+
+lay-requires : tie.Need-lay-requires
+lay-requires c κs =
+    let made = c .before .before .before in
+    lay-asked (made .before .before .before .before .before .before .before .before .pre) (made .before .before .before .before .before .columns .ensures) (made .before .before .before .cells .ensures)
+
+slice-aggregate-run : tie.Need-slice-aggregate-run
+slice-aggregate-run c = search needs
+
+slice-aggregate-run-2 : tie.Need-slice-aggregate-run-2
+slice-aggregate-run-2 c = search needs
+
+slice-aggregate-run-3 : tie.Need-slice-aggregate-run-3
+slice-aggregate-run-3 c = search needs
+
+slice-aggregate-run-4 : tie.Need-slice-aggregate-run-4
+slice-aggregate-run-4 c = search needs
+
+slice-aggregate-run-5 : tie.Need-slice-aggregate-run-5
+slice-aggregate-run-5 c = search needs
+
+slice-aggregate-run-6 : tie.Need-slice-aggregate-run-6
+slice-aggregate-run-6 c = search needs
+
+run-requires : tie.Need-run-requires
+run-requires c κs =
+    let laid = c .before .before .before .before .before .before .before .before .before .before .before in
+    let made = laid .before .before .before .before in
+    stages-asked (made .before .before .before .before .before .before .before .before .pre) (laid .lay .ensures) (laid .lay .kept .1 .0 ∙ made .before .before .before .before .before .columns .ensures) (laid .lay .kept .1 .1 .0 ∙ made .before .before .before .cells .ensures)
+    (made .before .before .before .before .columns2 .ensures) (made .before .before .room .ensures .0) (made .before .eight .ensures .0) (made .eight2 .ensures .0)
+
+same-length : tie.Need-same-length
+same-length c = search needs
+
+returns : tie.Need-returns
+returns c =
+    let ran = c .before .before .before .before .before .before .before .before in
+    let laid = ran .before .before .before .before .before .before .before .before .before .before .before .before in
+    is-determinant (laid .before .before .before .before .before .before .before .before .before .before .before .before .pre) (laid .lay .ensures) (ran .run .ensures)
+
+pub determinant-spec : {M : Type 1} → statement M
+determinant-spec =
+    tie.close
+    (tie.spec
+    add-w
+    mul-wide
+    add-wide
+    columns-requires
+    columns-requires-2
+    cells-requires
+    room-requires
+    eight-requires
+    eight-requires-2
+    slice-aggregate-lay
+    slice-aggregate-lay-2
+    lay-requires
+    slice-aggregate-run
+    slice-aggregate-run-2
+    slice-aggregate-run-3
+    slice-aggregate-run-4
+    slice-aggregate-run-5
+    slice-aggregate-run-6
+    run-requires
+    same-length
+    returns)
