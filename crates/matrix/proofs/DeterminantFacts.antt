@@ -1,5 +1,5 @@
 -- The promise of the determinant leaves one answer only.
-use mathlib.Core.Path.{_≡_, refl, ap}
+use mathlib.Core.Path.{_≡_, refl, sym, ap}
 use mathlib.Core.Bool.{true}
 use mathlib.Core.List.{List, [], _∷_}
 use Prim.Native.Nat.{ℕ, _+_, _*_}
@@ -9,10 +9,10 @@ use Rattle.algebra.specs.Prime.{Prime}
 use Rattle.buffers.proofs.Held.{held-unique}
 use Rattle.buffers.proofs.Place.{by-rows}
 use Rattle.refusals.specs.Refused.{determinantSizes}
-use Rattle.refusals.proofs.Answering.{refusal-number, in-order}
+use Rattle.refusals.proofs.Answering.{not-done, in-order}
 use Rattle.refusals.proofs.Unique.{refusal-same, told-unique, answering-unique}
 use Rattle.stages.specs.Determinant.{IsDeterminant}
-use Rattle.matrix.specs.Determinant.{DeterminantPromised, DeterminantAnswered, numberOf, placeOf}
+use Rattle.matrix.specs.Determinant.{DeterminantPromised, DeterminantAnswered, numbersOf}
 use Rattle.matrix.specs.declared.determining.DeterminantAnswer.{DeterminantAnswer}
 use Rattle.matrix.specs.declared.determining.DeterminantAnswer.the-variants.{NotDone, Done}
 
@@ -21,11 +21,11 @@ pub determinant-unique : {p n d : ℕ} {a r r′ : List ℕ} → Prime p → IsD
 determinant-unique {p} {n} {d} P x y = held-unique (by-rows 1 1 (n * d + 1)) p (x .by P (omega (arith, P .two))) (y .by P (omega (arith, P .two)))
 
 -- an answer is determined by its numbers
-determinant-answer-same : (x y : DeterminantAnswer) → numberOf x ≡ numberOf y → placeOf x ≡ placeOf y → x ≡ y
-determinant-answer-same (NotDone x) (NotDone y) numbers places = ap NotDone (refusal-same x y numbers places)
-determinant-answer-same (NotDone x) Done numbers places = absurd (omega (arith, refusal-number x))
-determinant-answer-same Done (NotDone y) numbers places = absurd (omega (arith, refusal-number y))
-determinant-answer-same Done Done numbers places = refl
+determinant-answer-same : (x y : DeterminantAnswer) → numbersOf x ≡ numbersOf y → x ≡ y
+determinant-answer-same (NotDone x) (NotDone y) same = ap NotDone (refusal-same x y (λ i. same i .0) (λ i. same i .1))
+determinant-answer-same (NotDone x) Done same = not-done x (λ i. same i .0)
+determinant-answer-same Done (NotDone y) same = let back = sym same in not-done y (λ i. back i .0)
+determinant-answer-same Done Done same = refl
 
 module _ (p n m d : ℕ) (a r r₁ r₂ : List ℕ) where
   -- two answers that the promise allows are equal in every number, and so is the result at exit
@@ -39,4 +39,4 @@ module _ (p n m d : ℕ) (a r r₁ r₂ : List ℕ) where
   pub determinant-answered-unique : (x y : DeterminantAnswer) → DeterminantAnswered p n m d a r r₁ x → DeterminantAnswered p n m d a r r₂ y
       → (x ≡ y) × (r₁ ≡ r₂)
   determinant-answered-unique x y f g =
-      let (numbers, places, results) = determinant-promised-unique f g in (determinant-answer-same x y numbers places, results)
+      let (numbers, places, results) = determinant-promised-unique f g in (determinant-answer-same x y (λ i. (numbers i, places i)), results)

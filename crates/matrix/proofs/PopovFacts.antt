@@ -22,12 +22,12 @@ use Rattle.popov.specs.PopovFacts.{PopovFacts}
 use Rattle.popov.proofs.Facts.{popov-unique, popov-facts}
 use Rattle.popov.proofs.Equivalence.{popov-equivalent}
 use Rattle.refusals.specs.Refused.{reductionSizes}
-use Rattle.refusals.proofs.Answering.{refusal-number, InOrder, in-order}
+use Rattle.refusals.proofs.Answering.{not-done, InOrder, in-order}
 use Rattle.refusals.proofs.Unique.{refusal-same, answering-unique, told-unique}
 use Rattle.stepping.specs.Holding.{Holding}
 use Rattle.finishing.specs.Finishing.{PopovBy, IsPopov}
 use Rattle.matrix.specs.Answer.{lengths}
-use Rattle.matrix.specs.Popov.{PopovPromised, PopovAnswered, numberOf, placeOf, rankOf, firstOf, secondOf}
+use Rattle.matrix.specs.Popov.{PopovPromised, PopovAnswered, numbersOf}
 use Rattle.matrix.specs.declared.popov_form.PopovAnswer.{PopovAnswer}
 use Rattle.matrix.specs.declared.popov_form.PopovAnswer.the-variants.{NotDone, Done}
 use Rattle.matrix.proofs.Unique.{holding-unique}
@@ -46,12 +46,11 @@ popov-done-unique {p} {n} {m} {w} {rank} {rank′ = rank′} {r = r} {u} {v} P x
     λ i. (ranks i, firsts i, seconds i, same-r i, same-u i, same-v i)
 
 -- an answer is determined by its numbers
-popov-answer-same : (x y : PopovAnswer) → numberOf x ≡ numberOf y → placeOf x ≡ placeOf y → rankOf x ≡ rankOf y → firstOf x ≡ firstOf y
-    → secondOf x ≡ secondOf y → x ≡ y
-popov-answer-same (NotDone x) (NotDone y) numbers places ranks firsts seconds = ap NotDone (refusal-same x y numbers places)
-popov-answer-same (NotDone x) (Done rank first second) numbers places ranks firsts seconds = absurd (omega (arith, refusal-number x))
-popov-answer-same (Done rank first second) (NotDone y) numbers places ranks firsts seconds = absurd (omega (arith, refusal-number y))
-popov-answer-same (Done rank first second) (Done rank′ first′ second′) numbers places ranks firsts seconds = cc
+popov-answer-same : (x y : PopovAnswer) → numbersOf x ≡ numbersOf y → x ≡ y
+popov-answer-same (NotDone x) (NotDone y) same = ap NotDone (refusal-same x y (λ i. same i .0) (λ i. same i .1))
+popov-answer-same (NotDone x) (Done rank first second) same = not-done x (λ i. same i .0)
+popov-answer-same (Done rank first second) (NotDone y) same = let back = sym same in not-done y (λ i. back i .0)
+popov-answer-same (Done rank first second) (Done rank′ first′ second′) same = λ i. Done (same i .2) (same i .3) (same i .4)
 
 module _ (p n m d : ℕ) (a r u v r₁ u₁ v₁ r₂ u₂ v₂ : List ℕ) where
   -- two answers that the promise allows are equal in every number, and so is every buffer at exit
@@ -69,7 +68,7 @@ module _ (p n m d : ℕ) (a r u v r₁ u₁ v₁ r₂ u₂ v₂ : List ℕ) wher
       → (x ≡ y) × (r₁ ≡ r₂) × (u₁ ≡ u₂) × (v₁ ≡ v₂)
   popov-answered-unique x y f g =
       let (numbers, places, ranks, firsts, seconds, same-r, same-u, same-v) = popov-promised-unique f g in
-      (popov-answer-same x y numbers places ranks firsts seconds, same-r, same-u, same-v)
+      (popov-answer-same x y (λ i. (numbers i, places i, ranks i, firsts i, seconds i)), same-r, same-u, same-v)
 
 -- a call that is answered by 0: p is prime, and the matrix in a is the one that its places say
 module _ {p n m d : ℕ} {a r u v r′ u′ v′ : List ℕ} {place rank first second : ℕ}

@@ -18,13 +18,13 @@ use Rattle.reduction.proofs.Ending.{runs-unique}
 use Rattle.reduction.proofs.Pair.{pair-exclusive}
 use Rattle.pivots.specs.Pivot.{valueOf, rowOf}
 use Rattle.refusals.specs.Refused.{reductionSizes, stepSizes}
-use Rattle.refusals.proofs.Answering.{refusal-number, in-order}
+use Rattle.refusals.proofs.Answering.{not-done, in-order}
 use Rattle.refusals.proofs.Unique.{refusal-same, told-unique, answering-unique}
 use Rattle.stepping.specs.Holding.{Holding}
 use Rattle.running.specs.Listed.{maskOf}
 use Rattle.running.specs.Reduced.{Reduced, IsDone}
 use Rattle.running.specs.SteppedOnce.{SteppedOnce}
-use Rattle.matrix.specs.Answer.{lengths, Promised, Answered, numberOf, placeOf, rankOf, countOf, rowsOf}
+use Rattle.matrix.specs.Answer.{lengths, Promised, Answered, numbersOf}
 use Rattle.matrix.specs.Single.{StepPromised, StepAnswered}
 use Rattle.matrix.specs.Single as Single
 use Rattle.matrix.specs.declared.single.StepAnswer.{StepAnswer}
@@ -60,11 +60,11 @@ done-unique {p} {n} {m} {w} {rank} {count} {rows} {rank′} {count′} {rows′}
     λ i. (ranks i, counts i, masks i, same-r i, same-u i, same-v i)
 
 -- an answer is determined by its numbers
-answer-same : (x y : Answer) → numberOf x ≡ numberOf y → placeOf x ≡ placeOf y → rankOf x ≡ rankOf y → countOf x ≡ countOf y → rowsOf x ≡ rowsOf y → x ≡ y
-answer-same (NotDone x) (NotDone y) numbers places ranks counts masks = ap NotDone (refusal-same x y numbers places)
-answer-same (NotDone x) (Done rank count rows) numbers places ranks counts masks = absurd (omega (arith, refusal-number x))
-answer-same (Done rank count rows) (NotDone y) numbers places ranks counts masks = absurd (omega (arith, refusal-number y))
-answer-same (Done rank count rows) (Done rank′ count′ rows′) numbers places ranks counts masks = cc
+answer-same : (x y : Answer) → numbersOf x ≡ numbersOf y → x ≡ y
+answer-same (NotDone x) (NotDone y) same = ap NotDone (refusal-same x y (λ i. same i .0) (λ i. same i .1))
+answer-same (NotDone x) (Done rank count rows) same = not-done x (λ i. same i .0)
+answer-same (Done rank count rows) (NotDone y) same = let back = sym same in not-done y (λ i. back i .0)
+answer-same (Done rank count rows) (Done rank′ count′ rows′) same = λ i. Done (same i .2) (same i .3) (same i .4)
 
 module _ (p n m d : ℕ) (a r u v r₁ u₁ v₁ r₂ u₂ v₂ : List ℕ) where
   -- two answers that the promise allows are equal in every number, and so is every buffer at exit
@@ -81,7 +81,7 @@ module _ (p n m d : ℕ) (a r u v r₁ u₁ v₁ r₂ u₂ v₂ : List ℕ) wher
       → Answered p n m d a r u v r₁ u₁ v₁ x → Answered p n m d a r u v r₂ u₂ v₂ y → (x ≡ y) × (r₁ ≡ r₂) × (u₁ ≡ u₂) × (v₁ ≡ v₂)
   answered-unique x y f g =
       let (numbers, places, ranks, counts, rows, same-r, same-u, same-v) = promised-unique f g in
-      (answer-same x y numbers places ranks counts rows, same-r, same-u, same-v)
+      (answer-same x y (λ i. (numbers i, places i, ranks i, counts i, rows i)), same-r, same-u, same-v)
 
 -- a step is called for or not
 counted-unique : (n m : ℕ) (z : ℕ → ℕ) (c c′ : ℕ) → ((c ≡ 0) × NoPair n m z) ⊎ ((c ≡ 1) × Pair n m z)
@@ -102,11 +102,11 @@ stepped-unique {p} {n} {m} {w} {c} {c′} P x y =
     λ i. (counts i, results i)
 
 -- its answer is determined by its numbers
-step-answer-same : (x y : StepAnswer) → Single.numberOf x ≡ Single.numberOf y → Single.placeOf x ≡ Single.placeOf y → Single.countOf x ≡ Single.countOf y → x ≡ y
-step-answer-same (Step.NotDone x) (Step.NotDone y) numbers places counts = ap Step.NotDone (refusal-same x y numbers places)
-step-answer-same (Step.NotDone x) (Step.Done c) numbers places counts = absurd (omega (arith, refusal-number x))
-step-answer-same (Step.Done c) (Step.NotDone y) numbers places counts = absurd (omega (arith, refusal-number y))
-step-answer-same (Step.Done c) (Step.Done c′) numbers places counts = ap Step.Done counts
+step-answer-same : (x y : StepAnswer) → Single.numbersOf x ≡ Single.numbersOf y → x ≡ y
+step-answer-same (Step.NotDone x) (Step.NotDone y) same = ap Step.NotDone (refusal-same x y (λ i. same i .0) (λ i. same i .1))
+step-answer-same (Step.NotDone x) (Step.Done c) same = not-done x (λ i. same i .0)
+step-answer-same (Step.Done c) (Step.NotDone y) same = let back = sym same in not-done y (λ i. back i .0)
+step-answer-same (Step.Done c) (Step.Done c′) same = λ i. Step.Done (same i .2)
 
 module _ (p n m d : ℕ) (a r r₁ r₂ : List ℕ) where
   -- two answers that the promise allows are equal in every number, and so is the result at exit
@@ -121,4 +121,4 @@ module _ (p n m d : ℕ) (a r r₁ r₂ : List ℕ) where
   -- so the enums are equal
   pub step-answered-unique : (x y : StepAnswer) → StepAnswered p n m d a r r₁ x → StepAnswered p n m d a r r₂ y → (x ≡ y) × (r₁ ≡ r₂)
   step-answered-unique x y f g =
-      let (numbers, places, counts, results) = step-promised-unique f g in (step-answer-same x y numbers places counts, results)
+      let (numbers, places, counts, results) = step-promised-unique f g in (step-answer-same x y (λ i. (numbers i, places i, counts i)), results)

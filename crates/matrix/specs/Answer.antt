@@ -3,33 +3,17 @@ use mathlib.Core.Bool.{false}
 use mathlib.Core.List.{List, [], _∷_}
 use Prim.Native.Nat.{ℕ, _+_}
 use lib.ListN.{length}
-use Rattle.refusals.specs.Number as Refusal
+use Rattle.refusals.specs.Number.{numberOf, placeOf}
 use Rattle.refusals.specs.Answering.{Answering}
 use Rattle.refusals.specs.Refused.{reductionSizes, refusalTable}
 use Rattle.running.specs.Reduced.{IsDone}
 use Rattle.matrix.specs.declared.reducing.Answer.{Answer}
 use Rattle.matrix.specs.declared.reducing.Answer.the-variants.{NotDone, Done}
 
--- the numbers of an answer: "Rank and counts in a refusal are 0, the row list is empty"
-abbrev pub numberOf : Answer → ℕ
-numberOf (NotDone x) = Refusal.numberOf x
-numberOf (Done rank count rows) = 0
-
-abbrev pub placeOf : Answer → ℕ
-placeOf (NotDone x) = Refusal.placeOf x
-placeOf (Done rank count rows) = 0
-
-abbrev pub rankOf : Answer → ℕ
-rankOf (NotDone x) = 0
-rankOf (Done rank count rows) = rank
-
-abbrev pub countOf : Answer → ℕ
-countOf (NotDone x) = 0
-countOf (Done rank count rows) = count
-
-abbrev pub rowsOf : Answer → ℕ
-rowsOf (NotDone x) = 0
-rowsOf (Done rank count rows) = rows
+-- the numbers of an answer, from its number and its place on: "Rank and counts in a refusal are 0, the row list is empty"
+abbrev pub numbersOf : Answer → ℕ × ℕ × ℕ × ℕ × ℕ
+numbersOf (NotDone x) = (numberOf x, placeOf x, 0, 0, 0)
+numbersOf (Done rank count rows) = (0, 0, rank, count, rows)
 
 -- the lengths of input, result, U and V
 abbrev pub lengths : (a r u v : List ℕ) → List ℕ
@@ -45,4 +29,4 @@ Promised p n m d a r u v r′ u′ v′ number place rank count rows =
 
 -- the same of an answer, by its numbers
 abbrev pub Answered : (p n m d : ℕ) (a r u v r′ u′ v′ : List ℕ) → Answer → Type 0
-Answered p n m d a r u v r′ u′ v′ x = Promised p n m d a r u v r′ u′ v′ (numberOf x) (placeOf x) (rankOf x) (countOf x) (rowsOf x)
+Answered p n m d a r u v r′ u′ v′ x = let s = numbersOf x in Promised p n m d a r u v r′ u′ v′ (s .0) (s .1) (s .2) (s .3) (s .4)

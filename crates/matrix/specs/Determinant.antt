@@ -3,21 +3,17 @@ use mathlib.Core.Bool.{true}
 use mathlib.Core.List.{List, [], _∷_}
 use Prim.Native.Nat.{ℕ}
 use lib.ListN.{length}
-use Rattle.refusals.specs.Number as Refusal
+use Rattle.refusals.specs.Number.{numberOf, placeOf}
 use Rattle.refusals.specs.Answering.{Answering}
 use Rattle.refusals.specs.Refused.{determinantSizes, refusalTable}
 use Rattle.stages.specs.Determinant.{IsDeterminant}
 use Rattle.matrix.specs.declared.determining.DeterminantAnswer.{DeterminantAnswer}
 use Rattle.matrix.specs.declared.determining.DeterminantAnswer.the-variants.{NotDone, Done}
 
--- the numbers of an answer
-abbrev pub numberOf : DeterminantAnswer → ℕ
-numberOf (NotDone x) = Refusal.numberOf x
-numberOf Done = 0
-
-abbrev pub placeOf : DeterminantAnswer → ℕ
-placeOf (NotDone x) = Refusal.placeOf x
-placeOf Done = 0
+-- the numbers of an answer: its number and its place
+abbrev pub numbersOf : DeterminantAnswer → ℕ × ℕ
+numbersOf (NotDone x) = (numberOf x, placeOf x)
+numbersOf Done = (0, 0)
 
 -- The promise of the determinant, over the numbers that it returns and what the result holds at entry and at exit. The
 -- determinant is wanted, so that n and m may not differ.
@@ -28,4 +24,4 @@ DeterminantPromised p n m d a r r′ number place =
 
 -- the same of an answer, by its numbers
 abbrev pub DeterminantAnswered : (p n m d : ℕ) (a r r′ : List ℕ) → DeterminantAnswer → Type 0
-DeterminantAnswered p n m d a r r′ x = DeterminantPromised p n m d a r r′ (numberOf x) (placeOf x)
+DeterminantAnswered p n m d a r r′ x = let s = numbersOf x in DeterminantPromised p n m d a r r′ (s .0) (s .1)

@@ -2,7 +2,7 @@
 use mathlib.Core.Bool.{false}
 use mathlib.Core.List.{List}
 use Prim.Native.Nat.{ℕ, _+_}
-use Rattle.refusals.specs.Number as Refusal
+use Rattle.refusals.specs.Number.{numberOf, placeOf}
 use Rattle.refusals.specs.Answering.{Answering}
 use Rattle.refusals.specs.Refused.{refusalTable, reductionSizes}
 use Rattle.finishing.specs.Finishing.{IsPopov}
@@ -18,28 +18,11 @@ PopovPromised p n m d a r u v r′ u′ v′ number place rank first second =
     {Outcome = ℕ × ℕ × ℕ × List ℕ × List ℕ × List ℕ} (rank, first, second, r′, u′, v′) (0, 0, 0, r, u, v)
     (IsPopov p n m (d + 1) a r′ u′ v′ rank first second)
 
--- the numbers of an answer
-abbrev pub numberOf : PopovAnswer → ℕ
-numberOf (NotDone x) = Refusal.numberOf x
-numberOf (Done rank first second) = 0
-
-abbrev pub placeOf : PopovAnswer → ℕ
-placeOf (NotDone x) = Refusal.placeOf x
-placeOf (Done rank first second) = 0
-
-abbrev pub rankOf : PopovAnswer → ℕ
-rankOf (NotDone x) = 0
-rankOf (Done rank first second) = rank
-
-abbrev pub firstOf : PopovAnswer → ℕ
-firstOf (NotDone x) = 0
-firstOf (Done rank first second) = first
-
-abbrev pub secondOf : PopovAnswer → ℕ
-secondOf (NotDone x) = 0
-secondOf (Done rank first second) = second
+-- the numbers of an answer: its number, its place, the rank and the two counts
+abbrev pub numbersOf : PopovAnswer → ℕ × ℕ × ℕ × ℕ × ℕ
+numbersOf (NotDone x) = (numberOf x, placeOf x, 0, 0, 0)
+numbersOf (Done rank first second) = (0, 0, rank, first, second)
 
 -- the promise of an answer, by its numbers
 abbrev pub PopovAnswered : (p n m d : ℕ) (a r u v r′ u′ v′ : List ℕ) → PopovAnswer → Type 0
-PopovAnswered p n m d a r u v r′ u′ v′ x =
-    PopovPromised p n m d a r u v r′ u′ v′ (numberOf x) (placeOf x) (rankOf x) (firstOf x) (secondOf x)
+PopovAnswered p n m d a r u v r′ u′ v′ x = let s = numbersOf x in PopovPromised p n m d a r u v r′ u′ v′ (s .0) (s .1) (s .2) (s .3) (s .4)

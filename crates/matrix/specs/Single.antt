@@ -3,25 +3,17 @@ use mathlib.Core.Bool.{false}
 use mathlib.Core.List.{List, [], _∷_}
 use Prim.Native.Nat.{ℕ, _+_}
 use lib.ListN.{length}
-use Rattle.refusals.specs.Number as Refusal
+use Rattle.refusals.specs.Number.{numberOf, placeOf}
 use Rattle.refusals.specs.Answering.{Answering}
 use Rattle.refusals.specs.Refused.{stepSizes, refusalTable}
 use Rattle.running.specs.SteppedOnce.{SteppedOnce}
 use Rattle.matrix.specs.declared.single.StepAnswer.{StepAnswer}
 use Rattle.matrix.specs.declared.single.StepAnswer.the-variants.{NotDone, Done}
 
--- the numbers of an answer
-abbrev pub numberOf : StepAnswer → ℕ
-numberOf (NotDone x) = Refusal.numberOf x
-numberOf (Done count) = 0
-
-abbrev pub placeOf : StepAnswer → ℕ
-placeOf (NotDone x) = Refusal.placeOf x
-placeOf (Done count) = 0
-
-abbrev pub countOf : StepAnswer → ℕ
-countOf (NotDone x) = 0
-countOf (Done count) = count
+-- the numbers of an answer: its number, its place and the count
+abbrev pub numbersOf : StepAnswer → ℕ × ℕ × ℕ
+numbersOf (NotDone x) = (numberOf x, placeOf x, 0)
+numbersOf (Done count) = (0, 0, count)
 
 -- The promise of the single step, over the numbers that it returns and what the result holds at entry and at exit. No
 -- determinant is wanted.
@@ -32,4 +24,4 @@ StepPromised p n m d a r r′ number place count =
 
 -- the same of an answer, by its numbers
 abbrev pub StepAnswered : (p n m d : ℕ) (a r r′ : List ℕ) → StepAnswer → Type 0
-StepAnswered p n m d a r r′ x = StepPromised p n m d a r r′ (numberOf x) (placeOf x) (countOf x)
+StepAnswered p n m d a r r′ x = let s = numbersOf x in StepPromised p n m d a r r′ (s .0) (s .1) (s .2)

@@ -20,31 +20,19 @@ use Rattle.moorbesen.specs.declared.DeterminantReply.{DeterminantReply}
 
 -- the reply that tells an answer of the reduction has its numbers: "Rank and counts in a refusal are 0, the row list is empty"
 abbrev pub replyOf : Answer → Reply
-replyOf x = record {
-  number = Reduction.numberOf x;
-  place = Reduction.placeOf x;
-  rank = Reduction.rankOf x;
-  count = Reduction.countOf x;
-  rows = Reduction.rowsOf x;
-}
+replyOf x = let s = Reduction.numbersOf x in record { number = s .0; place = s .1; rank = s .2; count = s .3; rows = s .4 }
 
 -- that of the single step, which has neither rank nor list of rows
 abbrev pub stepReplyOf : StepAnswer → Reply
-stepReplyOf x = record { number = Step.numberOf x; place = Step.placeOf x; rank = 0; count = Step.countOf x; rows = 0 }
+stepReplyOf x = let s = Step.numbersOf x in record { number = s .0; place = s .1; rank = 0; count = s .2; rows = 0 }
 
 -- that of the Popov form
 abbrev pub popovReplyOf : PopovAnswer → PopovReply
-popovReplyOf x = record {
-  number = Popov.numberOf x;
-  place = Popov.placeOf x;
-  rank = Popov.rankOf x;
-  first = Popov.firstOf x;
-  second = Popov.secondOf x;
-}
+popovReplyOf x = let s = Popov.numbersOf x in record { number = s .0; place = s .1; rank = s .2; first = s .3; second = s .4 }
 
 -- and that of the determinant
 abbrev pub determinantReplyOf : DeterminantAnswer → DeterminantReply
-determinantReplyOf x = record { number = Determinant.numberOf x; place = Determinant.placeOf x }
+determinantReplyOf x = let s = Determinant.numbersOf x in record { number = s .0; place = s .1 }
 
 -- the promise of the reduction, of the numbers of a reply
 abbrev pub Replied : (p n m d : ℕ) (a r u v r′ u′ v′ : List ℕ) → Reply → Type 0

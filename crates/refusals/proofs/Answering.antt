@@ -23,6 +23,10 @@ refusal-number Square = omega arith
 refusal-number (Length k) = omega arith
 refusal-number (Coefficient i) = omega arith
 
+-- so that none is told as done
+pub not-done : {A : Type 0} (x : Refusal) → numberOf x ≡ 0 → A
+not-done x none = absurd (omega (arith, refusal-number x))
+
 module _ {table : List Row} {Outcome : Type 0} {kept : Outcome} {Done : Type 0} where
   -- a refusal of the checks is an answer where nothing is touched
   pub answer-refused : {c : Check} {x : Refusal} → c ≡ Refused x → Told table (checkNumber c) (checkPlace c)
@@ -30,7 +34,7 @@ module _ {table : List Row} {Outcome : Type 0} {kept : Outcome} {Done : Type 0} 
   answer-refused {x = x} is told = record {
     told = subst (λ (c : Check). Told table (checkNumber c) (checkPlace c)) is told;
     refused = λ some. refl;
-    done = λ none. absurd (omega (arith, refusal-number x));
+    done = not-done x;
   }
 
   -- and 0 where the checks find nothing and the work is done
