@@ -64,26 +64,27 @@ matrix-lengths a r (Refused x) numbers told = λ given wanted l. told false _ _ 
 
 -- the places of a matrix, of U, of V and of the determinant are few
 module _ (p n m d : ℕ) (h : Numbers p n m d) where
+  -- eight times as many as some few
+  rows-of : (x most : ℕ) → x ≤ most → n * x ≤ 8 * most
+  rows-of x most few = mul-le-mul (h .shape .rows-most) few
+
+  places-few : d + 1 ≤ 64
+  places-few = omega (arith, h .degree)
+
   pub row-few : m * (d + 1) ≤ 512
-  row-few =
-      let size : d + 1 ≤ 64 = omega (arith, h .degree) in
-      let most : m * (d + 1) ≤ 8 * 64 = mul-le-mul (h .shape .columns-most) size in
-      omega arith
+  row-few = let most : m * (d + 1) ≤ 8 * 64 = mul-le-mul (h .shape .columns-most) places-few in omega arith
 
   pub matrix-few : n * (m * (d + 1)) ≤ 4096
-  matrix-few = let most : n * (m * (d + 1)) ≤ 8 * 512 = mul-le-mul (h .shape .rows-most) row-few in omega arith
+  matrix-few = omega (arith, rows-of (m * (d + 1)) 512 row-few)
 
   pub cell-few : n * (d + 1) ≤ 512
-  cell-few =
-      let size : d + 1 ≤ 64 = omega (arith, h .degree) in
-      let most : n * (d + 1) ≤ 8 * 64 = mul-le-mul (h .shape .rows-most) size in
-      omega arith
+  cell-few = omega (arith, rows-of (d + 1) 64 places-few)
 
   pub square-few : n * (n * (d + 1)) ≤ 4096
-  square-few = let most : n * (n * (d + 1)) ≤ 8 * 512 = mul-le-mul (h .shape .rows-most) cell-few in omega arith
+  square-few = omega (arith, rows-of (n * (d + 1)) 512 cell-few)
 
   pub transform-few : n * (n * (n * (d + 1))) ≤ 32768
-  transform-few = let most : n * (n * (n * (d + 1))) ≤ 8 * 4096 = mul-le-mul (h .shape .rows-most) square-few in omega arith
+  transform-few = omega (arith, rows-of (n * (n * (d + 1))) 4096 square-few)
 
   pub determinant-few : n * d + n ≤ 512
   determinant-few = omega (arith, cell-few, mul-add n d 1, mul-one n)

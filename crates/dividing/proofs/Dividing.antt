@@ -27,9 +27,9 @@ use Rattle.reduction.proofs.Index.{value-is}
 use Rattle.popov.specs.Scaled.{where-some, divisor, inverse, scaled}
 use Rattle.popov.proofs.Scaling.{inverse-is}
 use Rattle.pivots.specs.Pivot.{valuesOf}
-use Rattle.stepping.specs.Asked.{PivotAsked}
+use Rattle.planning.specs.Asked.{PivotAsked}
 use Rattle.stepping.specs.Holding.{Holding}
-use Rattle.stepping.specs.Move.{leadingAt}
+use Rattle.planning.specs.Factor.{leadingAt}
 use Rattle.stepping.proofs.Moving.{leading-is}
 use Rattle.stepping.proofs.RowsOf.{pivot-asked}
 use Rattle.stepping.proofs.Value.{value-held}

@@ -14,7 +14,7 @@ use Rattle.reduction.specs.Step.{Carried}
 use Rattle.popov.specs.Scaled.{scaled}
 use Rattle.pivots.specs.Pivot.{Pivots, valuesOf}
 use Rattle.stepping.specs.Holding.{Holding}
-use Rattle.stepping.specs.Asked.{CoefficientAsked}
+use Rattle.planning.specs.Asked.{CoefficientAsked}
 
 -- the result, U and V in their buffers, of residues modulo a prime
 pub record Matrices (p reciprocal n m w : ℕ) (r u v : List ℕ) : Type 0 where

@@ -24,7 +24,7 @@ fn divide_row(
     if x.0 == 0 {
         return;
     }
-    let c = stepping::coefficient(r, i, x, h, m, w);
+    let c = planning::coefficient(r, i, x, h, m, w);
     let f = c.inverse(md);
     scaling::scale_row(r, i, m, w, f, md);
     scaling::scale_row(u, i, n, n * w, f, md);

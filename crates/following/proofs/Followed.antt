@@ -7,8 +7,8 @@ use lib.ListN.{length, getD}
 use Rattle.lists.specs.Total.{total}
 use Rattle.lists.proofs.Total.{total-suc, total-injection}
 use Rattle.rows.specs.Asked.{RowsInBuffer}
-use Rattle.stepping.specs.Move.{Factor}
-use Rattle.stepping.proofs.Following.{negative-below}
+use Rattle.planning.specs.Factor.{Factor}
+use Rattle.planning.proofs.Below.{negative-below}
 use Rattle.following.specs.Followed.{StepAsked, SumAsked}
 
 -- the spare row has been written before

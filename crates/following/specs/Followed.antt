@@ -8,8 +8,9 @@ use Rattle.poly.specs.Polynomial.{Coefficients}
 use Rattle.buffers.specs.Place.{place}
 use Rattle.buffers.specs.Added.{RowAdded}
 use Rattle.rows.specs.Asked.{Short}
-use Rattle.stepping.specs.Move.{Factor}
-use Rattle.stepping.specs.Asked.{PlanAsked, Renewed}
+use Rattle.planning.specs.Factor.{Factor}
+use Rattle.planning.specs.Asked.{PlanAsked}
+use Rattle.stepping.specs.Asked.{Renewed}
 
 -- two rows of r that are to be reduced, with their pivots, and their cells of `wide` places in the parted column: that of row k has
 -- no term from `top` on, so that x^e times it fits

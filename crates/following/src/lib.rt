@@ -27,7 +27,7 @@ fn step(
     requires { ⌜ StepAsked (md .p) (md .reciprocal) m w wide l k top (now r) (now column) (now spare) (now index) (now degree) ⌝ }
     ensures { λ _. ⌜ StepFollowed (md .p) m w wide l k (now (r .entry)) (now (column .entry)) (now (index .entry)) (now (degree .entry)) (now (r .exit)) (now (column .exit)) (now (index .exit)) (now (degree .exit)) ⌝ }
 {
-    let x = stepping::plan(r, index, degree, l, k, m, w, md);
+    let x = planning::plan(r, index, degree, l, k, m, w, md);
     let high = degree[l];
     rows::add_row(r, spare, l, k, m, w, degree[k], x.f, x.e, md);
     rows::add_row(column, spare, l, k, 1, wide, top, x.f, x.e, md);

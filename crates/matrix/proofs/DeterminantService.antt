@@ -4,12 +4,12 @@ use mathlib.Core.Bool.{true}
 use mathlib.Core.List.{List, [], _∷_}
 use Prim.Native.Nat.{ℕ, _+_, _*_}
 use native.Mathlib.Omega.{arith}
-use lib.ListN.{length, getD}
+use lib.ListN.{length}
 use Rattle.algebra.specs.Prime.{Prime}
 use Rattle.residues.specs.Modulus.{Ready}
 use Rattle.refusals.specs.Answering.{Told}
 use Rattle.refusals.specs.Refused.{determinantSizes, refusalTable}
-use Rattle.refusals.proofs.Answering.{answer-done, InOrder, in-order}
+use Rattle.refusals.proofs.Answering.{answer-done, InOrder, in-order, sized}
 use Rattle.stages.specs.Determinant.{DeterminantAsked, IsDeterminant}
 use Rattle.matrix.specs.Determinant.{DeterminantAnswered}
 use Rattle.matrix.specs.declared.determining.DeterminantAnswer.the-variants.{Done}
@@ -22,10 +22,6 @@ module _ {p n m d : ℕ} {a r : List ℕ} (passed : DeterminantPassed p n m d a 
   pub determinant-order : InOrder true p n m d (length a ∷ length r ∷ []) (determinantSizes n m d) a
   determinant-order = in-order refl (passed .told)
 
-  -- both buffers have their lengths
-  sized : (k : ℕ) → getD (length a ∷ length r ∷ []) k 0 ≡ getD (determinantSizes n m d) k 0
-  sized k = ap (λ (l : List ℕ). getD l k 0) (determinant-order .lengths)
-
   pub determinant-asked : {q reciprocal : ℕ} → q ≡ p → Ready q reciprocal → DeterminantAsked q reciprocal n d a r
   determinant-asked q-is ready = record {
     ready = ready;
@@ -33,9 +29,9 @@ module _ {p n m d : ℕ} {a r : List ℕ} (passed : DeterminantPassed p n m d a 
     rows = omega (arith, determinant-order .numbers .shape .rows);
     rows-most = determinant-order .numbers .shape .rows-most;
     degree-most = determinant-order .numbers .degree;
-    size = sized 0 ∙ ap (λ (x : ℕ). n * (x * (d + 1))) (sym (determinant-order .square));
+    size = sized determinant-order 0 ∙ ap (λ (x : ℕ). n * (x * (d + 1))) (sym (determinant-order .square));
     residues = rw q-is (determinant-order .residues);
-    room = sized 1;
+    room = sized determinant-order 1;
   }
 
   pub determinant-answered : (q : ℕ) (r′ : List ℕ) → q ≡ p → IsDeterminant q n d a r′ → DeterminantAnswered p n m d a r r′ Done

@@ -4,7 +4,7 @@ use mathlib.Core.Bool.{false}
 use mathlib.Core.List.{List}
 use Prim.Native.Nat.{ℕ, _+_, _*_, _<_}
 use native.Mathlib.Omega.{arith}
-use lib.ListN.{length, getD}
+use lib.ListN.{length}
 use Rattle.algebra.specs.Prime.{Prime}
 use Rattle.residues.specs.Modulus.{Ready}
 use Rattle.poly.specs.Polynomial.{Coefficients}
@@ -13,7 +13,7 @@ use Rattle.rows.specs.Asked.{Square}
 use Rattle.refusals.specs.Answering.{Told}
 use Rattle.refusals.specs.Refused.{Numbers, reductionSizes, refusalTable}
 use Rattle.checking.proofs.Verdicts.{row-few, cell-few, matrix-few}
-use Rattle.refusals.proofs.Answering.{answer-done, InOrder, in-order}
+use Rattle.refusals.proofs.Answering.{answer-done, InOrder, in-order, sized}
 use Rattle.running.specs.Asked.{InputAsked, StartAsked}
 use Rattle.running.specs.Reduced.{IsDone}
 use Rattle.matrix.specs.Answer.{lengths, Answered}
@@ -45,24 +45,21 @@ module _ {p n m d : ℕ} {a r u v : List ℕ} (passed : Passed p n m d a r u v) 
   pub order : InOrder false p n m d (lengths a r u v) (reductionSizes n m d) a
   order = in-order refl (passed .told)
 
-  sized : (k : ℕ) → getD (lengths a r u v) k 0 ≡ getD (reductionSizes n m d) k 0
-  sized k = ap (λ (l : List ℕ). getD l k 0) (order .lengths)
-
   pub copy-fits : length a ≡ length r
-  copy-fits = sized 0 ∙ sym (sized 1)
+  copy-fits = sized order 0 ∙ sym (sized order 1)
 
   pub u-square : Square n (n * (d + 1)) u
-  u-square = record { some = some; size = sized 2 }
+  u-square = record { some = some; size = sized order 2 }
     where
       some : 0 < n * (d + 1)
       some = omega (arith, order .numbers .shape .rows)
 
   pub v-square : Square n (d + 1) v
-  v-square = record { some = omega arith; size = sized 3 }
+  v-square = record { some = omega arith; size = sized order 3 }
 
   pub start-asked : {q reciprocal : ℕ} {r′ u′ v′ : List ℕ} → q ≡ p → Ready q reciprocal → r′ ≡ a → Diagonal n (n * (d + 1)) u′ → Diagonal n (d + 1) v′
       → StartAsked q reciprocal n m (d + 1) r′ u′ v′
-  start-asked q-is ready r-is u-one v-one = record { input = input-asked (order .numbers) (sized 0) (order .residues) q-is ready r-is; u-one = u-one; v-one = v-one }
+  start-asked q-is ready r-is u-one v-one = record { input = input-asked (order .numbers) (sized order 0) (order .residues) q-is ready r-is; u-one = u-one; v-one = v-one }
 
   -- the reduction of the copy is that of the input
   pub answered : {q rank count rows : ℕ} {b r′ u′ v′ : List ℕ} → q ≡ p → b ≡ a → IsDone q n m (d + 1) b r′ u′ v′ rank count rows

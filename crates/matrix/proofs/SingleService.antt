@@ -1,13 +1,13 @@
 -- From the checks to the single step, and from its end to the answer.
-use mathlib.Core.Path.{_≡_, refl, sym, ap, _∙_}
+use mathlib.Core.Path.{_≡_, refl, sym, _∙_}
 use mathlib.Core.Bool.{false}
 use mathlib.Core.List.{List, [], _∷_}
 use Prim.Native.Nat.{ℕ, _+_}
-use lib.ListN.{length, getD}
+use lib.ListN.{length}
 use Rattle.residues.specs.Modulus.{Ready}
 use Rattle.refusals.specs.Answering.{Told}
 use Rattle.refusals.specs.Refused.{stepSizes, refusalTable}
-use Rattle.refusals.proofs.Answering.{answer-done, InOrder, in-order}
+use Rattle.refusals.proofs.Answering.{answer-done, InOrder, in-order, sized}
 use Rattle.running.specs.Asked.{InputAsked}
 use Rattle.running.specs.SteppedOnce.{SteppedOnce}
 use Rattle.matrix.specs.Single.{StepAnswered}
@@ -22,17 +22,13 @@ module _ {p n m d : ℕ} {a r : List ℕ} (passed : StepPassed p n m d a r) wher
   pub step-order : InOrder false p n m d (length a ∷ length r ∷ []) (stepSizes n m d) a
   step-order = in-order refl (passed .told)
 
-  -- both buffers have their lengths
-  sized : (k : ℕ) → getD (length a ∷ length r ∷ []) k 0 ≡ getD (stepSizes n m d) k 0
-  sized k = ap (λ (l : List ℕ). getD l k 0) (step-order .lengths)
-
   -- so the result has room for the input
   pub step-copy-fits : length a ≡ length r
-  step-copy-fits = sized 0 ∙ sym (sized 1)
+  step-copy-fits = sized step-order 0 ∙ sym (sized step-order 1)
 
   -- the copy has passed the checks too
   pub step-asked : {q reciprocal : ℕ} {r′ : List ℕ} → q ≡ p → Ready q reciprocal → r′ ≡ a → InputAsked q reciprocal n m (d + 1) r′
-  step-asked q-is ready r-is = input-asked (step-order .numbers) (sized 0) (step-order .residues) q-is ready r-is
+  step-asked q-is ready r-is = input-asked (step-order .numbers) (sized step-order 0) (step-order .residues) q-is ready r-is
 
   -- a step on the copy is a step on the input
   pub step-answered : {q count : ℕ} {b r′ : List ℕ} → q ≡ p → b ≡ a → SteppedOnce q n m (d + 1) count b r′ → StepAnswered p n m d a r r′ (Done count)

@@ -1,8 +1,8 @@
--- What lists hold, and each function of this crate and of `residues` as what it reads or works out in the field Z/p.
+-- What lists hold, and each function of this crate as what it reads off a polynomial over the field Z/p.
 use mathlib.Core.Path.{_≡_, refl, sym, ap, _∙_, fun-ext}
 use mathlib.Core.Logic.{_↔_}
 use mathlib.Core.List.{List}
-use Prim.Native.Nat.{ℕ, zero, suc, _+_, _*_, _-_, _%_, _≤_, _<_}
+use Prim.Native.Nat.{ℕ, zero, suc, _-_, _≤_, _<_}
 use native.Mathlib.Nat as N
 use native.Mathlib.Decide.{decLe}
 use native.Mathlib.Omega.{arith}
@@ -12,13 +12,12 @@ use Rattle.algebra.specs.Field.{Field}
 use Rattle.algebra.specs.Polynomial.{Degree}
 use Rattle.algebra.specs.Prime.{Prime}
 use Rattle.algebra.specs.Residue.{Zp, of}
-use Rattle.algebra.proofs.PrimeField.{zp-field, field-add, field-mul, field-neg, field-zero, field-one}
+use Rattle.algebra.proofs.PrimeField.{zp-field, field-zero}
 use Rattle.algebra.proofs.Residue.{zp-path}
 use Rattle.algebra.proofs.Series.{series, zero-at}
 use Rattle.lists.proofs.Change.{getD-past}
 use Rattle.lists.proofs.Last.{IsLast, last-is}
 use Rattle.poly.proofs.Ending.{ends-height}
-use Rattle.residues.specs.Modulus.{Inverse}
 use Rattle.poly.specs.Polynomial.{Coefficients, height, degreeOf, leadingOf, SamePolynomial}
 use Rattle.poly.specs.Reading.{Holds}
 
@@ -40,22 +39,6 @@ holds-coefficients p l f h = record { below = λ i _. let e = h .at i in let b =
 module _ (p : ℕ) (P : Prime p) where
   abbrev K : Field (Zp p)
   K = zp-field p P
-
-  -- a residue by its number
-  by-number : (a r : Zp p) (v : ℕ) → a .val ≡ v → r .val ≡ v → r ≡ a
-  by-number a r v e h = zp-path _ _ (h ∙ sym e)
-
-  pub residue-sum : (a b r : Zp p) → r .val ≡ (a .val + b .val) % p → r ≡ K .ring .add a b
-  residue-sum a b r = by-number _ r _ (field-add p P a b)
-
-  pub residue-difference : (a b r : Zp p) → r .val ≡ (a .val + (p - b .val)) % p → r ≡ K .ring .add a (K .ring .neg b)
-  residue-difference a b r = by-number _ r _ (field-add p P a _ ∙ ap (λ (x : ℕ). (a .val + x) % p) (field-neg p P b) ∙ N.add-mod-mod (a .val) (p - b .val) p)
-
-  pub residue-product : (a b r : Zp p) → r .val ≡ a .val * b .val % p → r ≡ K .ring .mul a b
-  residue-product a b r = by-number _ r _ (field-mul p P a b)
-
-  pub residue-inverse : (a r : Zp p) → Inverse p (a .val) (r .val) → K .ring .mul a r ≡ K .ring .𝟙
-  residue-inverse a r h = by-number _ _ 1 (field-one p P) (field-mul p P a r ∙ h .one)
 
   -- the number of a coefficient that is zero
   zero-number : (a : Zp p) → a ≡ K .ring .𝟘 → a .val ≡ 0

@@ -1,10 +1,11 @@
 -- The answers to calls that are refused and to calls that are done.
-use mathlib.Core.Path.{_≡_, refl, subst}
+use mathlib.Core.Path.{_≡_, refl, ap, subst}
 use mathlib.Core.Bool.{Bool}
 use mathlib.Core.Logic.{_⊎_, inl, inr}
 use mathlib.Core.List.{List}
 use Prim.Native.Nat.{ℕ, _<_}
 use native.Mathlib.Omega.{arith}
+use lib.ListN.{getD}
 use Rattle.poly.specs.Polynomial.{Coefficients}
 use Rattle.refusals.specs.Number.{numberOf, placeOf, checkNumber, checkPlace}
 use Rattle.refusals.specs.Answering.{Row, Told, Answering}
@@ -47,6 +48,11 @@ pub record InOrder (determinant : Bool) (p n m d : ℕ) (given wanted a : List �
   pub square : InSquare determinant n m
   pub lengths : given ≡ wanted
   pub residues : Coefficients p a
+
+-- so every buffer has its length
+pub sized : {determinant : Bool} {p n m d : ℕ} {given wanted a : List ℕ} → InOrder determinant p n m d given wanted a
+    → (k : ℕ) → getD given k 0 ≡ getD wanted k 0
+sized x k = ap (λ (l : List ℕ). getD l k 0) (x .lengths)
 
 -- the number is 0, so no row applies
 pub past : {A P S : Type 0} {number k : ℕ} → number ≡ 0 → 0 < k → ((¬ A) × (number ≡ k) × P) ⊎ (A × S) → A × S

@@ -24,8 +24,8 @@ use Rattle.popov.proofs.SecondStep.{zero-excess, k-some, removed-row, values-ke
 use Rattle.residues.specs.Modulus.{Ready}
 use Rattle.pivots.specs.Pivot.{valuesOf, Pivots}
 use Rattle.stepping.specs.Holding.{Holding}
-use Rattle.stepping.specs.Move.{Divided}
-use Rattle.stepping.specs.Asked.{CoefficientAsked}
+use Rattle.planning.specs.Factor.{Divided}
+use Rattle.planning.specs.Asked.{CoefficientAsked}
 use Rattle.stepping.proofs.Value.{value-held, height-most}
 use Rattle.stepping.proofs.Moving.{height-is, coefficient-is, leading-is, subtracted-holding}
 use Rattle.stepping.proofs.Short.{holding-matrices, spent-fits, u-short, v-short}

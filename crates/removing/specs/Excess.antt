@@ -5,7 +5,7 @@ use Prim.Native.Nat.{ℕ, _+_, _*_, _-_, _≤_, _<_}
 use lib.ListN.{length, getD}
 use Rattle.lists.specs.Part.{part}
 use Rattle.poly.specs.Polynomial.{height}
-use Rattle.stepping.specs.Asked.{CoefficientAsked}
+use Rattle.planning.specs.Asked.{CoefficientAsked}
 
 -- the cell of row i in column j, counted from 0
 abbrev pub cellOf : ℕ → ℕ → List ℕ → ℕ → ℕ → List ℕ

@@ -15,8 +15,10 @@ use Rattle.popov.proofs.Carrying.{Carries}
 use Rattle.residues.specs.Modulus.{Ready}
 use Rattle.pivots.specs.Pivot.{valuesOf, Pivots}
 use Rattle.stepping.specs.Holding.{Holding}
-use Rattle.stepping.specs.Move.{coefficientAt, leadingAt, Moved}
-use Rattle.stepping.specs.Asked.{CoefficientAsked, PivotAsked, MoveAsked}
+use Rattle.planning.specs.Factor.{coefficientAt, leadingAt}
+use Rattle.stepping.specs.Move.{Moved}
+use Rattle.planning.specs.Asked.{CoefficientAsked, PivotAsked}
+use Rattle.stepping.specs.Asked.{MoveAsked}
 use Rattle.removing.specs.Excess.{excessAt}
 
 -- row k has a term of x^e times the leading term of row i, and that multiple of row i fits

@@ -1,7 +1,7 @@
 // The steps of the second kind on the buffers: "go through the non-zero rows from the top."
 ghost use mathlib.Core.Path.{_≡_};
 ghost use Prim.Native.Nat.{_+_};
-ghost use Rattle.stepping.specs.Asked.{CoefficientAsked};
+ghost use Rattle.planning.specs.Asked.{CoefficientAsked};
 ghost use Rattle.removing.specs.Excess.{excessOf, excessAt, HighestAsked, IsHighest};
 ghost use Rattle.removing.specs.Removing.{RemoveAsked, SecondMove, RemovingAsked, ClearAsked, Cleared, RemovedAll};
 use pivots::PivotDegree;
@@ -72,9 +72,9 @@ fn remove(
     ensures { λ _. ⌜ SecondMove (md .p) n m w k i e (now (r .entry)) (now (u .entry)) (now (v .entry)) (now (index .entry)) (now (degree .entry)) (now (r .exit)) (now (u .exit)) (now (v .exit)) ⌝ }
 {
     let low = degree[i];
-    let a = stepping::coefficient(r, k, PivotIndex(index[i]), PivotDegree(low + e), m, w);
-    let b = stepping::coefficient(r, i, PivotIndex(index[i]), PivotDegree(low), m, w);
-    let x = stepping::divide(a, b, e, md);
+    let a = planning::coefficient(r, k, PivotIndex(index[i]), PivotDegree(low + e), m, w);
+    let b = planning::coefficient(r, i, PivotIndex(index[i]), PivotDegree(low), m, w);
+    let x = planning::divide(a, b, e, md);
     let top = Ranges {
         r: low,
         u: n * w - e,

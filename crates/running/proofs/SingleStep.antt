@@ -24,8 +24,8 @@ use Rattle.reduction.proofs.SingleStep.{step-pair, step-none}
 use Rattle.choosing.specs.Pair.{NextAsked, IsNextOf}
 use Rattle.pivots.specs.Pivot.{valuesOf}
 use Rattle.choosing.specs.declared.pair.Next.the-variants.{Rows}
-use Rattle.stepping.specs.Move.{Factor}
-use Rattle.stepping.specs.Asked.{PlanAsked}
+use Rattle.planning.specs.Factor.{Factor}
+use Rattle.planning.specs.Asked.{PlanAsked}
 use Rattle.running.specs.Asked.{InputAsked}
 use Rattle.running.specs.SteppedOnce.{SteppedOnce}
 use Rattle.stepping.proofs.Value.{value-held}

@@ -54,7 +54,7 @@ pub fn once(r: &mut [u16], n: usize, m: usize, w: usize, md: Modulus) -> u64
     let Next::Rows { l, k } = choosing::next_rows(&index, &degree, n) else {
         return 0;
     };
-    let x = stepping::plan(r, &index, &degree, l, k, m, w, md);
+    let x = planning::plan(r, &index, &degree, l, k, m, w, md);
     rows::add_row(r, &mut spare, l, k, m, w, degree[k], x.f, x.e, md);
     1
 }

@@ -2,23 +2,19 @@
 use mathlib.Core.Path.{_≡_, sym, _∙_}
 use mathlib.Core.List.{List}
 use Prim.Native.Nat.{ℕ, _+_, _-_, _*_, _≤_, _<_}
-use native.Mathlib.Nat.{mod-lt, mul-zero, zero-mod}
+use native.Mathlib.Nat.{mul-zero, zero-mod}
 use native.Mathlib.Omega.{arith}
 use lib.ListN.{length, getD}
 use borrow.Author.Tests.{le-leb}
 use Rattle.lists.proofs.Grid.{line-end, within, one-line}
 use Rattle.residues.specs.Modulus.{Ready}
-use Rattle.poly.specs.Polynomial.{Coefficients}
 use Rattle.buffers.specs.Place.{place}
 use Rattle.buffers.specs.Added.{RowAdded}
 use Rattle.rows.specs.Asked.{Short, RowsInBuffer, LinePair}
-use Rattle.stepping.specs.Move.{coefficientAt, Divided, Factor}
-use Rattle.stepping.specs.Asked.{CoefficientAsked, PlanAsked, MoveAsked, SubtractAsked, RenewAsked}
-
--- a coefficient of the matrix is a residue
-pub coefficient-below : {p m w i x h : ℕ} {r : List ℕ} → Coefficients p r → CoefficientAsked m w i x h r → coefficientAt m w r i x h < p
-coefficient-below {m = m} {w = w} {x = x} {h = h} residues a = residues .below _
-    (omega (arith, a .row, within (x - 1) (h - 1) m w (omega (arith, a .column, a .column-most)) (omega (arith, a .height, a .height-most))))
+use Rattle.planning.proofs.Below.{negative-below}
+use Rattle.planning.specs.Factor.{Divided, Factor}
+use Rattle.planning.specs.Asked.{PlanAsked}
+use Rattle.stepping.specs.Asked.{MoveAsked, SubtractAsked, RenewAsked}
 
 -- what a subtraction asks of the rows and columns
 module _ {p reciprocal n m w l k e c f r-top u-top v-top : ℕ} {r u v spare : List ℕ}
@@ -60,9 +56,6 @@ module _ {p reciprocal n m w l k e c f r-top u-top v-top : ℕ} {r u v spare : L
       short = move .v-short;
       spare-room = omega (arith, move .cell-room, move .v-room, one-line n w (omega (arith, move .l-fits)));
     }
-
-pub negative-below : {p a b d e c f : ℕ} → Divided p a b d e c f → f < p
-negative-below {p} {c = c} g = rw (g .f-is) (mod-lt (p - c) (omega (arith, g .c-below)))
 
 -- with the multiple that a division gives
 pub subtract-asked : {p reciprocal n m w l k a b d e c f r-top u-top v-top : ℕ} {r u v spare : List ℕ}

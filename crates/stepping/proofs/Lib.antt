@@ -1,6 +1,5 @@
 pub mod Value
 pub mod Moving
 pub mod Short
-pub mod Quotient
 pub mod Following
 pub mod RowsOf

@@ -35,7 +35,8 @@ use Rattle.reduction.proofs.Lowering.{Lowered, lowered, value-le}
 use Rattle.reduction.proofs.Degrees.{Narrow, narrow-step, u-fits, v-degrees}
 use Rattle.pivots.specs.Pivot.{valuesOf, Pivots}
 use Rattle.stepping.specs.Holding.{Holding}
-use Rattle.stepping.specs.Move.{coefficientAt, leadingAt, Divided, Factor, Subtracted, FirstMove}
+use Rattle.planning.specs.Factor.{coefficientAt, leadingAt, Divided, Factor}
+use Rattle.stepping.specs.Move.{Subtracted, FirstMove}
 use Rattle.stepping.proofs.Value.{value-held}
 
 -- the quotient is what gives the dividend

@@ -24,8 +24,9 @@ use Rattle.reduction.proofs.Index.{index-some, height-some, height-bound, clash
 use Rattle.pivots.specs.Pivot.{valueOf, rowOf, valuesOf, IsPivotOf, Pivots}
 use Rattle.lists.proofs.Grid.{line-end, within}
 use Rattle.pivots.proofs.Search.{past-height}
-use Rattle.stepping.specs.Move.{leadingAt}
-use Rattle.stepping.specs.Asked.{CoefficientAsked, PivotAsked, PlanAsked, Renewed}
+use Rattle.planning.specs.Factor.{leadingAt}
+use Rattle.planning.specs.Asked.{CoefficientAsked, PivotAsked, PlanAsked}
+use Rattle.stepping.specs.Asked.{Renewed}
 use Rattle.stepping.proofs.Value.{values-most}
 
 module _ (n m w : ℕ) (columns : 0 < m) (r : List ℕ) (size : length r ≡ n * (m * w)) where

@@ -1,74 +1,15 @@
 // A subtraction of rows on the buffers, which R, U and V follow, and the step of the first kind, which the pivots follow too.
-ghost use mathlib.Core.Path.{_≡_};
-ghost use Rattle.stepping.specs.Asked.{CoefficientAsked, DivideAsked, PlanAsked, SubtractAsked, RenewAsked, Renewed, AdvanceAsked, Advanced};
-ghost use Rattle.stepping.specs.Move.{coefficientAt, Divided, Factor, Subtracted};
+ghost use Rattle.stepping.specs.Asked.{SubtractAsked, RenewAsked, Renewed, AdvanceAsked, Advanced};
+ghost use Rattle.stepping.specs.Move.{Subtracted};
 use pivots::Pivot;
-use pivots::PivotDegree;
-use pivots::PivotIndex;
+use planning::Move;
 use residues::Modulus;
-use residues::Residue;
-
-// c·x^e is taken from row l times row k; f is -c, so that the rows are only ever added to.
-pub struct Move {
-    pub e: usize,
-    pub c: Residue,
-    pub f: Residue,
-}
 
 // How many of the lowest places of a cell can be other than zero, in row k of R, in row k of U and in column l of V: only these are read.
 pub struct Ranges {
     pub r: usize,
     pub u: usize,
     pub v: usize,
-}
-
-// The coefficient of row i in the column and of the degree of a pivot.
-pub fn coefficient(
-    r: &[u16],
-    i: usize,
-    x: PivotIndex,
-    h: PivotDegree,
-    m: usize,
-    w: usize,
-) -> Residue
-    requires { ⌜ CoefficientAsked m w i (x .0) (h .0) (now r) ⌝ }
-    ensures { λ c. ⌜ c .0 ≡ coefficientAt m w (now (r .entry)) i (x .0) (h .0) ⌝ }
-{
-    let s = m * w;
-    let j = x.0 - 1;
-    let t = h.0 - 1;
-    Residue(r[i * s + (j * w + t)])
-}
-
-// c is a divided by b.
-pub fn divide(a: Residue, b: Residue, e: usize, md: Modulus) -> Move
-    requires { ⌜ DivideAsked (md .p) (md .reciprocal) (a .0) (b .0) ⌝ }
-    ensures { λ x. ⌜ Divided (md .p) (a .0) (b .0) e (x .e) (x .c .0) (x .f .0) ⌝ }
-{
-    let c = a.product(b.inverse(md), md);
-    let f = Residue::ZERO.difference(c, md);
-    Move { e, c, f }
-}
-
-// What the step on rows l and k takes away.
-pub fn plan(
-    r: &[u16],
-    index: &[usize],
-    degree: &[usize],
-    l: usize,
-    k: usize,
-    m: usize,
-    w: usize,
-    md: Modulus,
-) -> Move
-    requires { ⌜ PlanAsked (md .p) (md .reciprocal) m w l k (now r) (now index) (now degree) ⌝ }
-    ensures { λ x. ⌜ Factor (md .p) m w l k (now (r .entry)) (now (index .entry)) (now (degree .entry)) (x .e) (x .c .0) (x .f .0) ⌝ }
-{
-    let high = degree[l];
-    let low = degree[k];
-    let a = coefficient(r, l, PivotIndex(index[l]), PivotDegree(high), m, w);
-    let b = coefficient(r, k, PivotIndex(index[k]), PivotDegree(low), m, w);
-    divide(a, b, high - low, md)
 }
 
 // c·x^e times row k is taken from row l of R and of U, and c·x^e times column l is added to column k of V.
@@ -135,7 +76,7 @@ pub fn advance(
     requires { ⌜ AdvanceAsked (md .p) (md .reciprocal) n m w l k reach (now r) (now u) (now v) (now spare) (now index) (now degree) ⌝ }
     ensures { λ _. ⌜ Advanced (md .p) n m w l k (now (r .entry)) (now (u .entry)) (now (v .entry)) (now (index .entry)) (now (degree .entry)) (now (r .exit)) (now (u .exit)) (now (v .exit)) (now (index .exit)) (now (degree .exit)) ⌝ }
 {
-    let x = plan(r, index, degree, l, k, m, w, md);
+    let x = planning::plan(r, index, degree, l, k, m, w, md);
     let high = degree[l];
     let top = Ranges {
         r: degree[k],

@@ -8,7 +8,7 @@ use lib.ListN.{length, take, drop}
 use Rattle.lists.proofs.Grid.{line-end}
 use Rattle.lists.proofs.Part.{length-part}
 use Rattle.poly.specs.Polynomial.{height}
-use Rattle.stepping.specs.Asked.{CoefficientAsked}
+use Rattle.planning.specs.Asked.{CoefficientAsked}
 use Rattle.removing.specs.Excess.{cellOf}
 use Rattle.removing.proofs.excess.Statement.{statement}
 use Rattle.removing.proofs.excess.Tie as tie

@@ -1,7 +1,8 @@
 use borrow.Author.Needs.{needs}
 use native.Mathlib.Omega.{arith}
 use Rattle.lists.proofs.Grid.{one-line}
-use Rattle.stepping.proofs.Following.{coefficient-below, subtract-asked}
+use Rattle.planning.proofs.Below.{coefficient-below}
+use Rattle.stepping.proofs.Following.{subtract-asked}
 use Rattle.removing.proofs.remove.Statement.{statement}
 use Rattle.removing.proofs.remove.Tie as tie
 

@@ -5,7 +5,7 @@ use native.Mathlib.Nat.{mul-assoc, mul-comm, mul-one, mod-lt, mod-eq-of-lt, zero
 use native.Mathlib.Omega.{arith}
 use Rattle.algebra.proofs.Residue.{mul-mod-left, mul-mod-right}
 use Rattle.residues.specs.Modulus.{Inverse}
-use Rattle.stepping.specs.Move.{Divided}
+use Rattle.planning.specs.Factor.{Divided}
 
 pub divided : (p a b r c f e : ℕ) → a < p → Inverse p b r → c ≡ a * r % p → f ≡ (0 + (p - c)) % p → Divided p a b e e c f
 divided p a b r c f e small inverse c-is f-is = record {

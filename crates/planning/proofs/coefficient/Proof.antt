@@ -2,8 +2,8 @@ use native.Mathlib.Omega.{arith}
 use borrow.Author.Needs.{needs}
 use Prim.Native.Nat.{_+_, _-_, _*_, _<_}
 use Rattle.lists.proofs.Grid.{within}
-use Rattle.stepping.proofs.coefficient.Statement.{statement}
-use Rattle.stepping.proofs.coefficient.Tie as tie
+use Rattle.planning.proofs.coefficient.Statement.{statement}
+use Rattle.planning.proofs.coefficient.Tie as tie
 
 -- the coefficient lies in the row
 inside : (c : tie.After-struct-known2) → let args = c .before .before .args in (args .x .0 - 1) * args .w + (args .h .0 - 1) < args .m * args .w

@@ -2,9 +2,9 @@ use native.Mathlib.Omega.{arith}
 use borrow.Author.Needs.{needs}
 use Prim.Native.Nat.{_<_}
 use native.Mathlib.Nat.{mod-lt}
-use Rattle.stepping.proofs.Quotient.{divided}
-use Rattle.stepping.proofs.divide.Statement.{statement}
-use Rattle.stepping.proofs.divide.Tie as tie
+use Rattle.planning.proofs.Quotient.{divided}
+use Rattle.planning.proofs.divide.Statement.{statement}
+use Rattle.planning.proofs.divide.Tie as tie
 
 inverse-requires : tie.Need-inverse-requires
 inverse-requires c κs = search needs

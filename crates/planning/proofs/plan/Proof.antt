@@ -1,7 +1,7 @@
 use borrow.Author.Needs.{needs}
-use Rattle.stepping.proofs.Following.{coefficient-below}
-use Rattle.stepping.proofs.plan.Statement.{statement}
-use Rattle.stepping.proofs.plan.Tie as tie
+use Rattle.planning.proofs.Below.{coefficient-below}
+use Rattle.planning.proofs.plan.Statement.{statement}
+use Rattle.planning.proofs.plan.Tie as tie
 
 mul-high : tie.Need-mul-high
 mul-high c = search needs

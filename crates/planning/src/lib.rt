@@ -1,0 +1,64 @@
+// The multiple of a row that is taken from another: what removes a term of it.
+ghost use mathlib.Core.Path.{_≡_};
+ghost use Rattle.planning.specs.Asked.{CoefficientAsked, DivideAsked, PlanAsked};
+ghost use Rattle.planning.specs.Factor.{coefficientAt, Divided, Factor};
+use pivots::PivotDegree;
+use pivots::PivotIndex;
+use residues::Modulus;
+use residues::Residue;
+
+// c·x^e is taken from row l times row k; f is -c, so that the rows are only ever added to.
+pub struct Move {
+    pub e: usize,
+    pub c: Residue,
+    pub f: Residue,
+}
+
+// The coefficient of row i in the column and of the degree of a pivot.
+pub fn coefficient(
+    r: &[u16],
+    i: usize,
+    x: PivotIndex,
+    h: PivotDegree,
+    m: usize,
+    w: usize,
+) -> Residue
+    requires { ⌜ CoefficientAsked m w i (x .0) (h .0) (now r) ⌝ }
+    ensures { λ c. ⌜ c .0 ≡ coefficientAt m w (now (r .entry)) i (x .0) (h .0) ⌝ }
+{
+    let s = m * w;
+    let j = x.0 - 1;
+    let t = h.0 - 1;
+    Residue(r[i * s + (j * w + t)])
+}
+
+// c is a divided by b.
+pub fn divide(a: Residue, b: Residue, e: usize, md: Modulus) -> Move
+    requires { ⌜ DivideAsked (md .p) (md .reciprocal) (a .0) (b .0) ⌝ }
+    ensures { λ x. ⌜ Divided (md .p) (a .0) (b .0) e (x .e) (x .c .0) (x .f .0) ⌝ }
+{
+    let c = a.product(b.inverse(md), md);
+    let f = Residue::ZERO.difference(c, md);
+    Move { e, c, f }
+}
+
+// What the step on rows l and k takes away.
+pub fn plan(
+    r: &[u16],
+    index: &[usize],
+    degree: &[usize],
+    l: usize,
+    k: usize,
+    m: usize,
+    w: usize,
+    md: Modulus,
+) -> Move
+    requires { ⌜ PlanAsked (md .p) (md .reciprocal) m w l k (now r) (now index) (now degree) ⌝ }
+    ensures { λ x. ⌜ Factor (md .p) m w l k (now (r .entry)) (now (index .entry)) (now (degree .entry)) (x .e) (x .c .0) (x .f .0) ⌝ }
+{
+    let high = degree[l];
+    let low = degree[k];
+    let a = coefficient(r, l, PivotIndex(index[l]), PivotDegree(high), m, w);
+    let b = coefficient(r, k, PivotIndex(index[k]), PivotDegree(low), m, w);
+    divide(a, b, high - low, md)
+}
