@@ -5,3 +5,4 @@ pub mod Added
 pub mod Scaled
 pub mod Exchanged
 pub mod Diagonal
+pub mod Bounds

@@ -4,10 +4,12 @@ use mathlib.Core.Bool.{Bool, true, false}
 use mathlib.Core.Logic.{_≢_, inl, inr}
 use mathlib.Core.List.{List, _∷_}
 use Prim.Native.Nat.{ℕ, zero, suc, _+_, _*_, _≤_, _<_}
-use native.Mathlib.Nat.{mul-le-mul, mul-add, mul-one}
+use native.Mathlib.Nat.{mul-add, mul-one}
 use native.Mathlib.Omega.{arith}
 use lib.ListN.{length, drop, getD}
 use Rattle.poly.specs.Polynomial.{Coefficients}
+use Rattle.buffers.specs.Bounds.{Bounds}
+use Rattle.buffers.proofs.Bounds.{cell-few}
 use Rattle.refusals.specs.Answering.{Told}
 use Rattle.refusals.specs.Refused.{Numbers, InSquare, FirstWrong, FirstHigh, refusalTable, Verdict}
 use Rattle.checking.specs.Part.{OfLengths, OfMatrix}
@@ -62,29 +64,17 @@ pub matrix-lengths : {p n m d : ℕ} (a r : ℕ) (c : Check) → Numbers p n m d
 matrix-lengths a r Fine numbers (input, result) = (numbers, input, result)
 matrix-lengths a r (Refused x) numbers told = λ given wanted l. told false _ _ _ _ given wanted l numbers tt
 
--- the places of a matrix, of U, of V and of the determinant are few
-module _ (p n m d : ℕ) (h : Numbers p n m d) where
-  -- eight times as many as some few
-  rows-of : (x most : ℕ) → x ≤ most → n * x ≤ 8 * most
-  rows-of x most few = mul-le-mul (h .shape .rows-most) few
+-- n, m and d are in range
+pub in-bounds : {p n m d : ℕ} → Numbers p n m d → Bounds n m (d + 1)
+in-bounds h = record {
+  rows = omega (arith, h .shape .rows);
+  rows-most = h .shape .rows-most;
+  columns = omega (arith, h .shape .columns);
+  columns-most = h .shape .columns-most;
+  places = omega arith;
+  places-most = omega (arith, h .degree);
+}
 
-  places-few : d + 1 ≤ 64
-  places-few = omega (arith, h .degree)
-
-  pub row-few : m * (d + 1) ≤ 512
-  row-few = let most : m * (d + 1) ≤ 8 * 64 = mul-le-mul (h .shape .columns-most) places-few in omega arith
-
-  pub matrix-few : n * (m * (d + 1)) ≤ 4096
-  matrix-few = omega (arith, rows-of (m * (d + 1)) 512 row-few)
-
-  pub cell-few : n * (d + 1) ≤ 512
-  cell-few = omega (arith, rows-of (d + 1) 64 places-few)
-
-  pub square-few : n * (n * (d + 1)) ≤ 4096
-  square-few = omega (arith, rows-of (n * (d + 1)) 512 cell-few)
-
-  pub transform-few : n * (n * (n * (d + 1))) ≤ 32768
-  transform-few = omega (arith, rows-of (n * (n * (d + 1))) 4096 square-few)
-
-  pub determinant-few : n * d + n ≤ 512
-  determinant-few = omega (arith, cell-few, mul-add n d 1, mul-one n)
+-- so the places of the determinant are few
+pub determinant-few : {p n m d : ℕ} → Numbers p n m d → n * d + n ≤ 512
+determinant-few {n = n} {d = d} h = omega (arith, cell-few (in-bounds h), mul-add n d 1, mul-one n)

@@ -19,7 +19,7 @@ use Rattle.algebra.proofs.Series.{series}
 use Rattle.buffers.specs.Held.{matrixOf}
 use Rattle.buffers.specs.Scaled.{RowScaled, ColumnScaled}
 use Rattle.buffers.proofs.Place.{by-rows}
-use Rattle.buffers.proofs.Held.{held-bounded, held-coefficients, held-matrixOf, held-matrix-same}
+use Rattle.buffers.proofs.Held.{held-bounded, held-matrixOf, held-matrix-same}
 use Rattle.buffers.proofs.Scaled.{held-row-scaled, held-column-scaled}
 use Rattle.reduction.specs.Pivot.{index}
 use Rattle.reduction.specs.Step.{Carried, leading}
@@ -28,12 +28,14 @@ use Rattle.popov.specs.Scaled.{where-some, divisor, inverse, scaled}
 use Rattle.popov.proofs.Scaling.{inverse-is}
 use Rattle.pivots.specs.Pivot.{valuesOf}
 use Rattle.planning.specs.Asked.{PivotAsked}
-use Rattle.stepping.specs.Holding.{Holding}
 use Rattle.planning.specs.Factor.{leadingAt}
+use Rattle.stepping.specs.Holding.{Holding}
+use Rattle.stepping.specs.Asked.{Matrices}
 use Rattle.stepping.proofs.Moving.{leading-is}
 use Rattle.stepping.proofs.RowsOf.{pivot-asked}
+use Rattle.stepping.proofs.Short.{holding-matrices}
 use Rattle.stepping.proofs.Value.{value-held}
-use Rattle.dividing.specs.Monic.{Matrices, RowToDivide, whereSome, RowDivided, MonicAsked, MadeMonic}
+use Rattle.dividing.specs.Monic.{RowToDivide, whereSome, RowDivided, MonicAsked, MadeMonic}
 
 module _ {F : Type 0} (R : CommRing F) where
   -- an element has one inverse
@@ -101,7 +103,8 @@ number-is p P m w zero a x h = field-one p P
 number-is p P m w (suc v) a x h = h (omega arith)
 
 module _ {p reciprocal n m w : ℕ} {r₀ u₀ v₀ indices degrees : List ℕ} (asked : MonicAsked p reciprocal n m w r₀ u₀ v₀ indices degrees) where
-  open Matrices (asked .matrices) using (ready, prime, r-size, u-size, v-size, r-residues, u-residues, v-residues)
+  open MonicAsked asked using (ready, prime, matrices, columns, lists)
+  open Matrices matrices using (sizes, r-residues, u-residues, v-residues)
 
   -- there are matrices that the buffers hold at entry
   some : 0 < p
@@ -117,9 +120,9 @@ module _ {p reciprocal n m w : ℕ} {r₀ u₀ v₀ indices degrees : List ℕ} 
   entry-held : Holding p n m w r₀ u₀ v₀ entry
   unfolding entry
   entry-held = record {
-    R = held-matrixOf (by-rows n m w) p some r₀ r-size r-residues;
-    U = held-matrixOf (by-rows n n (n * w)) p some u₀ u-size u-residues;
-    V′ = held-matrixOf (by-rows n n w) p some v₀ v-size v-residues;
+    R = held-matrixOf (by-rows n m w) p some r₀ (sizes .r-size) r-residues;
+    U = held-matrixOf (by-rows n n (n * w)) p some u₀ (sizes .u-size) u-residues;
+    V′ = held-matrixOf (by-rows n n w) p some v₀ (sizes .v-size) v-residues;
   }
 
   pub dividing-start : Dividing p n m w r₀ u₀ v₀ r₀ u₀ v₀ 0
@@ -133,7 +136,7 @@ module _ {p reciprocal n m w : ℕ} {r₀ u₀ v₀ indices degrees : List ℕ} 
     here = inv .held prime entry entry-held
 
     pub lengths : (length r ≡ length r₀) × (length u ≡ length u₀) × (length v ≡ length v₀)
-    lengths = (here .R .size ∙ sym r-size, here .U .size ∙ sym u-size, here .V′ .size ∙ sym v-size)
+    lengths = (here .R .size ∙ sym (sizes .r-size), here .U .size ∙ sym (sizes .u-size), here .V′ .size ∙ sym (sizes .v-size))
 
     module _ (li : i < n) where
       -- the leading coefficient of row i is as it was
@@ -146,20 +149,13 @@ module _ {p reciprocal n m w : ℕ} {r₀ u₀ v₀ indices degrees : List ℕ} 
           ∙ sym (entry-held .R .at i _ _ li col deg)
 
       pivot-there : 0 < valuesOf m w r₀ i → PivotAsked m w i r₀ indices degrees
-      pivot-there l = pivot-asked n m w (asked .columns) r₀ r-size indices degrees (asked .pivots) i li l (asked .index-room) (asked .degree-room)
+      pivot-there l = pivot-asked n m w columns r₀ (sizes .r-size) indices degrees (lists .pivots) i li l (lists .index-room) (lists .degree-room)
 
       pub row-asked : RowToDivide p reciprocal n m w i (getD indices i 0) (getD degrees i 0) r u v
       row-asked = record {
-        matrices = record {
-          ready = ready;
-          prime = prime;
-          r-size = here .R .size;
-          u-size = here .U .size;
-          v-size = here .V′ .size;
-          r-residues = held-coefficients (by-rows n m w) p (here .R);
-          u-residues = held-coefficients (by-rows n n (n * w)) p (here .U);
-          v-residues = held-coefficients (by-rows n n w) p (here .V′);
-        };
+        ready = ready;
+        prime = prime;
+        matrices = holding-matrices here;
         fits = li;
         leading = λ l. let x = there l .leading in record {
           row = omega (arith, lengths, x .row);
@@ -172,7 +168,7 @@ module _ {p reciprocal n m w : ℕ} {r₀ u₀ v₀ indices degrees : List ℕ} 
       }
         where
           there : 0 < getD indices i 0 → PivotAsked m w i r₀ indices degrees
-          there l = pivot-there (omega (arith, asked .pivots .row i li .index-is, value-is m (valuesOf m w r₀ i)))
+          there l = pivot-there (omega (arith, lists .pivots .row i li .index-is, value-is m (valuesOf m w r₀ i)))
 
       module _ {r′ u′ v′ : List ℕ} (d : RowDivided p n m w i (getD indices i 0) (getD degrees i 0) r u v r′ u′ v′) where
         module _ (P : Prime p) (t : Carried (Zp p)) (h : Holding p n m w r₀ u₀ v₀ t) where
@@ -182,10 +178,10 @@ module _ {p reciprocal n m w : ℕ} {r₀ u₀ v₀ indices degrees : List ℕ} 
           divisor-number : divisor K m w (t .R i) .val ≡ d .c
           divisor-number =
               number-is p P m w _ (leading K m w (t .R i)) (leadingAt m w r indices degrees i) (λ l.
-              leading-is p P n m w (asked .columns) r₀ indices degrees (t .R) (h .R) (asked .pivots) i li l
-              ∙ sym (leading-kept (pivot-there (omega (arith, value-held p P n m w (h .R) (asked .columns) i li)))))
+              leading-is p P n m w columns r₀ indices degrees (t .R) (h .R) (lists .pivots) i li l
+              ∙ sym (leading-kept (pivot-there (omega (arith, value-held p P n m w (h .R) columns i li)))))
               ∙ ap (λ (x : ℕ). whereSome x (leadingAt m w r indices degrees i))
-              (sym (asked .pivots .row i li .index-is ∙ ap (index m) (sym (value-held p P n m w (h .R) (asked .columns) i li))))
+              (sym (lists .pivots .row i li .index-is ∙ ap (index m) (sym (value-held p P n m w (h .R) columns i li))))
               ∙ sym (d .c-is)
 
           inverse-number : inverse K m w (t .R i) .val ≡ d .f

@@ -12,7 +12,8 @@ use Rattle.poly.specs.Polynomial.{Coefficients}
 use Rattle.buffers.specs.Place.{place}
 use Rattle.buffers.specs.Scaled.{CellsScaled}
 use Rattle.scaling.specs.Asked.{PartToScale}
-use Rattle.dividing.specs.Monic.{Matrices, RowToDivide, whereSome, RowDivided}
+use Rattle.stepping.specs.Asked.{Matrices}
+use Rattle.dividing.specs.Monic.{RowToDivide, whereSome, RowDivided}
 
 -- residues times 1
 once : {p w count : ℕ} {at : ℕ → ℕ → ℕ} {b : List ℕ} → 1 < p → Coefficients p b → CellsScaled p 1 w count at b b
@@ -31,7 +32,8 @@ divisor-is zero c lead l e = absurd (omega arith)
 divisor-is (suc x) c lead l e = e
 
 module _ {p reciprocal n m w i x h : ℕ} {r u v : List ℕ} (asked : RowToDivide p reciprocal n m w i x h r u v) where
-  open Matrices (asked .matrices) using (ready, prime, r-size, u-size, r-residues, u-residues, v-residues)
+  open RowToDivide asked using (ready, prime, matrices)
+  open Matrices matrices using (sizes, r-residues, u-residues, v-residues)
 
   pub zero-row : x ≡ 0 → RowDivided p n m w i x h r u v r u v
   zero-row none = record {
@@ -51,11 +53,11 @@ module _ {p reciprocal n m w i x h : ℕ} {r u v : List ℕ} (asked : RowToDivid
       r-residues .below _ (omega (arith, a .row, within (x - 1) (h - 1) m w (omega (arith, a .column-most)) (omega (arith, a .height, a .height-most))))
 
   pub r-row : PartToScale p reciprocal (m * w) (i * (m * w)) r
-  r-row = record { ready = ready; fits = omega (arith, r-size, line-end i n (m * w) (asked .fits)) }
+  r-row = record { ready = ready; fits = omega (arith, sizes .r-size, line-end i n (m * w) (asked .fits)) }
 
   pub u-row : PartToScale p reciprocal (n * (n * w)) (i * (n * (n * w))) u
-  u-row = record { ready = ready; fits = omega (arith, u-size, line-end i n (n * (n * w)) (asked .fits)) }
+  u-row = record { ready = ready; fits = omega (arith, sizes .u-size, line-end i n (n * (n * w)) (asked .fits)) }
 
   -- a cell of U
   pub cell-most : n * w ≤ length u
-  cell-most = let rows : 0 < n = omega (arith, asked .fits) in omega (arith, u-size, one-line n (n * w) rows, one-line n (n * (n * w)) rows)
+  cell-most = let rows : 0 < n = omega (arith, asked .fits) in omega (arith, sizes .u-size, one-line n (n * w) rows, one-line n (n * (n * w)) rows)

@@ -1,35 +1,27 @@
 -- "Last, divide each non-zero row by its pivot's leading coefficient; zero rows stay.": what is asked, and what is left.
 use mathlib.Core.Path.{_≡_}
 use mathlib.Core.List.{List}
-use Prim.Native.Nat.{ℕ, zero, suc, _*_, _-_, _≤_, _<_}
-use lib.ListN.{length, getD}
+use Prim.Native.Nat.{ℕ, zero, suc, _*_, _-_, _<_}
+use lib.ListN.{getD}
 use Rattle.algebra.specs.Prime.{Prime}
 use Rattle.algebra.specs.Residue.{Zp}
 use Rattle.algebra.proofs.PrimeField.{zp-field}
 use Rattle.residues.specs.Modulus.{Ready, Inverse}
-use Rattle.poly.specs.Polynomial.{Coefficients}
 use Rattle.buffers.specs.Place.{place}
 use Rattle.buffers.specs.Scaled.{RowScaled, ColumnScaled}
 use Rattle.reduction.specs.Step.{Carried}
 use Rattle.popov.specs.Scaled.{scaled}
-use Rattle.pivots.specs.Pivot.{Pivots, valuesOf}
-use Rattle.stepping.specs.Holding.{Holding}
+use Rattle.pivots.specs.Pivot.{PivotLists}
 use Rattle.planning.specs.Asked.{CoefficientAsked}
+use Rattle.stepping.specs.Holding.{Holding}
+use Rattle.stepping.specs.Asked.{Matrices}
 
--- the result, U and V in their buffers, of residues modulo a prime
-pub record Matrices (p reciprocal n m w : ℕ) (r u v : List ℕ) : Type 0 where
+-- row i of the result, U and V modulo a prime, with its pivot index x and one more than its pivot degree, h;
+-- where it is not zero, its leading coefficient is not 0
+pub record RowToDivide (p reciprocal n m w i x h : ℕ) (r u v : List ℕ) : Type 0 where
   pub ready : Ready p reciprocal
   pub prime : Prime p
-  pub r-size : length r ≡ n * (m * w)
-  pub u-size : length u ≡ n * (n * (n * w))
-  pub v-size : length v ≡ n * (n * w)
-  pub r-residues : Coefficients p r
-  pub u-residues : Coefficients p u
-  pub v-residues : Coefficients p v
-
--- row i, with its pivot index x and one more than its pivot degree, h; where it is not zero, its leading coefficient is not 0
-pub record RowToDivide (p reciprocal n m w i x h : ℕ) (r u v : List ℕ) : Type 0 where
-  pub matrices : Matrices p reciprocal n m w r u v
+  pub matrices : Matrices p n m w r u v
   pub fits : i < n
   pub leading : 0 < x → CoefficientAsked m w i x h r
   pub nonzero : 0 < x → 0 < getD r (place m w i (x - 1) (h - 1)) 0
@@ -51,11 +43,11 @@ pub record RowDivided (p n m w i x h : ℕ) (r u v r′ u′ v′ : List ℕ) : 
 
 -- the matrices, with the pivots of the rows of R in two lists
 pub record MonicAsked (p reciprocal n m w : ℕ) (r u v indices degrees : List ℕ) : Type 0 where
-  pub matrices : Matrices p reciprocal n m w r u v
+  pub ready : Ready p reciprocal
+  pub prime : Prime p
+  pub matrices : Matrices p n m w r u v
   pub columns : 0 < m
-  pub pivots : Pivots n m (valuesOf m w r) indices degrees
-  pub index-room : n ≤ length indices
-  pub degree-room : n ≤ length degrees
+  pub lists : PivotLists n m w r indices degrees
 
 -- what the buffers held is divided; U and V follow
 pub record MadeMonic (p n m w : ℕ) (r u v r′ u′ v′ : List ℕ) : Type 0 where

@@ -1,13 +1,13 @@
 -- The Popov form in buffers: what is asked of them, and what they then hold.
 use mathlib.Core.Path.{_≡_}
 use mathlib.Core.List.{List}
-use Prim.Native.Nat.{ℕ, _*_, _≤_, _<_}
+use Prim.Native.Nat.{ℕ, _*_, _<_}
 use lib.ListN.{length}
 use Rattle.algebra.specs.Prime.{Prime}
 use Rattle.algebra.specs.Residue.{Zp}
 use Rattle.algebra.proofs.PrimeField.{zp-field}
-use Rattle.residues.specs.Modulus.{Ready}
 use Rattle.poly.specs.Polynomial.{Coefficients}
+use Rattle.buffers.specs.Bounds.{Bounds, Checked}
 use Rattle.buffers.specs.Held.{matrixOf}
 use Rattle.buffers.proofs.Place.{by-rows}
 use Rattle.reduction.specs.Rank.{chosen}
@@ -15,6 +15,7 @@ use Rattle.reduction.specs.Step.{Carried}
 use Rattle.popov.specs.PopovRun.{PopovRun}
 use Rattle.pivots.specs.Pivot.{valuesOf}
 use Rattle.stepping.specs.Holding.{Holding}
+use Rattle.stepping.specs.Asked.{Sizes}
 use Rattle.running.specs.Reduced.{IsDone}
 
 -- paper 01's way from the matrix in a, by `first` steps of the first kind and `second` of the second, ends at what stands in r, u and v
@@ -28,26 +29,16 @@ pub record IsPopov (p n m w : ℕ) (a r u v : List ℕ) (rank first second : ℕ
   pub by : (P : Prime p) (some : 0 < p) → PopovBy p P some n m w first second a r u v
   pub rank-is : rank ≡ chosen n (valuesOf m w r)
 
--- three matrices of at most eight rows, whose lengths are those of the paper's table
+-- R, U and V of a shape within its bounds
 pub record Shaped (n m w : ℕ) (r u v : List ℕ) : Type 0 where
-  pub rows : 0 < n
-  pub rows-most : n ≤ 8
-  pub columns : 0 < m
-  pub row-few : m * w ≤ 512
-  pub cell-few : n * w ≤ 512
-  pub r-size : length r ≡ n * (m * w)
-  pub u-size : length u ≡ n * (n * (n * w))
-  pub v-size : length v ≡ n * (n * w)
+  pub bounds : Bounds n m w
+  pub sizes : Sizes n m w r u v
 
--- the buffers hold what the reduction promised of some matrix
+-- the buffers hold what the reduction promised of some matrix that has passed the checks
 pub record FinishAsked (p reciprocal n m w : ℕ) (r u v : List ℕ) : Type 0 where
-  pub ready : Ready p reciprocal
-  pub prime : Prime p
-  pub shaped : Shaped n m w r u v
-  pub places : 0 < w
   pub a : List ℕ
-  pub size : length a ≡ n * (m * w)
-  pub residues : Coefficients p a
+  pub checked : Checked p reciprocal n m w a
+  pub sizes : Sizes n m w r u v
   pub rank : ℕ
   pub count : ℕ
   pub list : ℕ

@@ -8,31 +8,25 @@ use lib.ListN.{length}
 use Rattle.algebra.specs.Prime.{Prime}
 use Rattle.residues.specs.Modulus.{Ready}
 use Rattle.poly.specs.Polynomial.{Coefficients}
+use Rattle.buffers.specs.Bounds.{Checked}
 use Rattle.buffers.specs.Diagonal.{Diagonal}
 use Rattle.rows.specs.Asked.{Square}
 use Rattle.refusals.specs.Answering.{Told}
 use Rattle.refusals.specs.Refused.{Numbers, reductionSizes, refusalTable}
-use Rattle.checking.proofs.Verdicts.{row-few, cell-few, matrix-few}
+use Rattle.checking.proofs.Verdicts.{in-bounds}
 use Rattle.refusals.proofs.Answering.{answer-done, InOrder, in-order, sized}
-use Rattle.running.specs.Asked.{InputAsked, StartAsked}
+use Rattle.running.specs.Asked.{StartAsked}
 use Rattle.running.specs.Reduced.{IsDone}
 use Rattle.matrix.specs.Answer.{lengths, Answered}
 use Rattle.matrix.specs.declared.reducing.Answer.the-variants.{Done}
 
 -- all checks have passed: the numbers are in range, and the input has its length and its residues
 pub input-asked : {p n m d : ℕ} {a : List ℕ} → Numbers p n m d → length a ≡ n * (m * (d + 1)) → Coefficients p a
-    → {q reciprocal : ℕ} {r : List ℕ} → q ≡ p → Ready q reciprocal → r ≡ a → InputAsked q reciprocal n m (d + 1) r
-input-asked {p} {n} {m} {d} numbers size residues q-is ready r-is = record {
+    → {q reciprocal : ℕ} {r : List ℕ} → q ≡ p → Ready q reciprocal → r ≡ a → Checked q reciprocal n m (d + 1) r
+input-asked numbers size residues q-is ready r-is = record {
   ready = ready;
   prime = subst Prime (sym q-is) (numbers .modulus .prime);
-  rows = omega (arith, numbers .shape .rows);
-  rows-most = numbers .shape .rows-most;
-  columns = omega (arith, numbers .shape .columns);
-  columns-most = numbers .shape .columns-most;
-  places = omega arith;
-  row-few = row-few p n m d numbers;
-  cell-few = cell-few p n m d numbers;
-  small = matrix-few p n m d numbers;
+  bounds = in-bounds numbers;
   size = ap length r-is ∙ size;
   residues = rw q-is (rw r-is residues);
 }
@@ -59,7 +53,8 @@ module _ {p n m d : ℕ} {a r u v : List ℕ} (passed : Passed p n m d a r u v) 
 
   pub start-asked : {q reciprocal : ℕ} {r′ u′ v′ : List ℕ} → q ≡ p → Ready q reciprocal → r′ ≡ a → Diagonal n (n * (d + 1)) u′ → Diagonal n (d + 1) v′
       → StartAsked q reciprocal n m (d + 1) r′ u′ v′
-  start-asked q-is ready r-is u-one v-one = record { input = input-asked (order .numbers) (sized order 0) (order .residues) q-is ready r-is; u-one = u-one; v-one = v-one }
+  start-asked q-is ready r-is u-one v-one =
+      record { input = input-asked (order .numbers) (sized order 0) (order .residues) q-is ready r-is; u-one = u-one; v-one = v-one }
 
   -- the reduction of the copy is that of the input
   pub answered : {q rank count rows : ℕ} {b r′ u′ v′ : List ℕ} → q ≡ p → b ≡ a → IsDone q n m (d + 1) b r′ u′ v′ rank count rows

@@ -5,10 +5,10 @@ use mathlib.Core.List.{List, [], _∷_}
 use Prim.Native.Nat.{ℕ, _+_}
 use lib.ListN.{length}
 use Rattle.residues.specs.Modulus.{Ready}
+use Rattle.buffers.specs.Bounds.{Checked}
 use Rattle.refusals.specs.Answering.{Told}
 use Rattle.refusals.specs.Refused.{stepSizes, refusalTable}
 use Rattle.refusals.proofs.Answering.{answer-done, InOrder, in-order, sized}
-use Rattle.running.specs.Asked.{InputAsked}
 use Rattle.running.specs.SteppedOnce.{SteppedOnce}
 use Rattle.matrix.specs.Single.{StepAnswered}
 use Rattle.matrix.specs.declared.single.StepAnswer.the-variants.{Done}
@@ -27,7 +27,7 @@ module _ {p n m d : ℕ} {a r : List ℕ} (passed : StepPassed p n m d a r) wher
   step-copy-fits = sized step-order 0 ∙ sym (sized step-order 1)
 
   -- the copy has passed the checks too
-  pub step-asked : {q reciprocal : ℕ} {r′ : List ℕ} → q ≡ p → Ready q reciprocal → r′ ≡ a → InputAsked q reciprocal n m (d + 1) r′
+  pub step-asked : {q reciprocal : ℕ} {r′ : List ℕ} → q ≡ p → Ready q reciprocal → r′ ≡ a → Checked q reciprocal n m (d + 1) r′
   step-asked q-is ready r-is = input-asked (step-order .numbers) (sized step-order 0) (step-order .residues) q-is ready r-is
 
   -- a step on the copy is a step on the input

@@ -54,6 +54,12 @@ pub record MatrixAsked (n m w : ℕ) (r index degree : List ℕ) : Type 0 where
 pub record Pivots (n m : ℕ) (v : ℕ → ℕ) (indices degrees : List ℕ) : Type 0 where
   pub row : (i : ℕ) → i < n → IsPivotOf m (v i) (getD indices i 0) (getD degrees i 0)
 
+-- two lists have the pivots of the n rows of r
+pub record PivotLists (n m w : ℕ) (r indices degrees : List ℕ) : Type 0 where
+  pub index-room : n ≤ length indices
+  pub degree-room : n ≤ length degrees
+  pub pivots : Pivots n m (valuesOf m w r) indices degrees
+
 -- the least of the pivot degrees of n rows, that of a zero row counting as 0, or w where that is less
 unfoldable pub leastDegree : ℕ → ℕ → List ℕ → ℕ
 leastDegree w zero degrees = w

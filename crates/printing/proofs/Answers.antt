@@ -10,10 +10,11 @@ use lib.Seq.{length-take-le}
 use Rattle.poly.specs.Polynomial.{Coefficients}
 use Rattle.buffers.proofs.Held.{held-coefficients}
 use Rattle.buffers.proofs.Place.{by-rows}
+use Rattle.buffers.proofs.Bounds.{matrix-few}
 use Rattle.refusals.specs.Answering.{Told}
 use Rattle.refusals.specs.Refused.{Numbers, InSquare, refusalTable}
 use Rattle.refusals.proofs.Answering.{refusal-number}
-use Rattle.checking.proofs.Verdicts.{all-right, matrix-few}
+use Rattle.checking.proofs.Verdicts.{all-right, in-bounds}
 use Rattle.refusals.proofs.Unique.{told-unique}
 use Rattle.running.specs.Reduced.{ReducedBy}
 use Rattle.matrix.specs.Answer.{Answered}
@@ -144,6 +145,6 @@ module _ (s : List ℕ) {room : List ℕ} where
         let numbers = subst⁻¹ (λ (t : ℕ × ℕ × ℕ × ℕ × List ℕ). Numbers (t .0) (t .1) (t .2) (t .3)) same (fine .numbers) in
         record {
           numbers = numbers;
-          size = length-take-le (n * (m * (d + 1))) room (omega (arith, matrix-few p n m d numbers, size));
+          size = length-take-le (n * (m * (d + 1))) room (omega (arith, matrix-few (in-bounds numbers), size));
           residues = subst⁻¹ (λ (t : ℕ × ℕ × ℕ × ℕ × List ℕ). Coefficients (t .0) (t .4)) same (fine .residues);
         }

@@ -16,14 +16,14 @@ use Rattle.stepping.proofs.RowsOf.{row-fits, leading-asked}
 use Rattle.removing.specs.Excess.{excessAt, HighestAsked, IsHighest}
 use Rattle.removing.specs.Removing.{RemoveAsked, SecondMove, RemovingAsked, ClearedTo, ClearAsked, Reached, Cleared, RemovedAll}
 use Rattle.removing.proofs.Excesses.{leftOf, excess-held}
-use Rattle.removing.proofs.Step.{other-row, indexed-first, first-some, rest-none, Turn, removal, remove-asked, standing-on, pivots-on, before-on, falls}
+use Rattle.removing.proofs.Step.{other-row, indexed-first, first-some, rest-none, Turn, removal, remove-asked, standing-on, lists-on, before-on, falls}
 
 -- steps after steps
 pub cleared-then : {p n m w k count k′ count′ : ℕ} {r u v r₁ u₁ v₁ r₂ u₂ v₂ indices degrees : List ℕ}
     → Cleared p n m w k count r u v r₁ u₁ v₁ indices degrees → Cleared p n m w k′ count′ r₁ u₁ v₁ r₂ u₂ v₂ indices degrees
     → Cleared p n m w k′ (count + count′) r u v r₂ u₂ v₂ indices degrees
 cleared-then {count = count} {count′ = count′} x y = record {
-  pivots = y .pivots;
+  lists = y .lists;
   before = y .before;
   reached = λ P rank A t s.
       let one = x .reached P rank A t s in
@@ -35,7 +35,7 @@ cleared-then {count = count} {count′ = count′} x y = record {
 pub cleared-row : {p n m w k count i : ℕ} {r u v r′ u′ v′ indices degrees : List ℕ} → Cleared p n m w k count r u v r′ u′ v′ indices degrees
     → IsHighest k (excessAt m w r′ indices degrees k) i 0 → Cleared p n m w (k + 1) count r u v r′ u′ v′ indices degrees
 cleared-row {m = m} {w = w} {k = k} {r′ = r′} {indices = indices} {degrees = degrees} x found = record {
-  pivots = x .pivots;
+  lists = x .lists;
   before = record {
     none = λ a j l la. below-more (λ a. (j : ℕ) → j < a → excessAt m w r′ indices degrees a j ≡ 0) k
         (λ a la j l. x .before .none a j l la) (λ j l. omega (arith, found .greatest j l)) a la j l;
@@ -47,7 +47,7 @@ module _ {p reciprocal n m w : ℕ} {r u v spare indices degrees : List ℕ} (as
   -- before the first step
   pub cleared-start : {k : ℕ} → ClearedTo m w k r indices degrees → Cleared p n m w k 0 r u v r u v indices degrees
   cleared-start before = record {
-    pivots = asked .pivots;
+    lists = asked .lists;
     before = before;
     reached = λ P rank A t s. record { t′ = t; standing = s; onward = λ c e q. rw N.zero-add q };
   }
@@ -63,9 +63,7 @@ module _ {p reciprocal n m w : ℕ} {r u v spare indices degrees : List ℕ} (as
       prime = asked .prime;
       columns = asked .columns;
       places = asked .places;
-      pivots = x .pivots;
-      index-room = asked .index-room;
-      degree-room = asked .degree-room;
+      lists = x .lists;
       row-room = omega (arith, asked .row-room);
       cell-room = omega (arith, asked .cell-room);
       rank = asked .rank;
@@ -102,10 +100,10 @@ module _ {p reciprocal n m w : ℕ} {r u v spare indices degrees : List ℕ} (as
     -- from a zero row on there is nothing to remove
     pub cleared-rest : k < n → getD indices k 0 ≡ 0 → Cleared p n m w n count r u v r′ u′ v′ indices degrees
     cleared-rest lk none = record {
-      pivots = x .pivots;
+      lists = x .lists;
       before = record {
         none = λ a j l la. case-le k a
-            (rest-none (asked .columns) (x .pivots) (here .standing) k lk none a j l la)
+            (rest-none (asked .columns) (x .lists) (here .standing) k lk none a j l la)
             (x .before .none a j l);
       };
       reached = x .reached;
@@ -114,11 +112,11 @@ module _ {p reciprocal n m w : ℕ} {r u v spare indices degrees : List ℕ} (as
     -- all rows are cleared
     pub removed-all : n ≤ k → RemovedAll p n m w count r u v r′ u′ v′ indices degrees
     removed-all all = record {
-      pivots = x .pivots;
+      lists = x .lists;
       by = λ P rank A t s.
           let y = x .reached P rank A t s in
           let none : NoRemoval n (excesses (zp-field p P) m w (y .t′ .R)) = λ a j l la.
-          sym (excess-held p P n m w (asked .columns) (y .standing .holding .R) (x .pivots) a j la (omega arith)) ∙ x .before .none a j l (omega arith) in
+          sym (excess-held p P n m w (asked .columns) (y .standing .holding .R) (x .lists .pivots) a j la (omega arith)) ∙ x .before .none a j l (omega arith) in
           record { t′ = y .t′; runs = rw N.add-zero at (y .onward 0 (y .t′) (halt none)); standing = y .standing };
     }
 
@@ -129,14 +127,14 @@ module _ {p reciprocal n m w k : ℕ} {r u v spare indices degrees : List ℕ} (
   pub highest-asked : HighestAsked m w k r indices degrees
   highest-asked =
       let size = removing .standing .holding .R .size in
-      let first : k < removing .rank = indexed-first (removing .columns) (removing .pivots) (removing .standing) k k-fits k-some in
+      let first : k < removing .rank = indexed-first (removing .columns) (removing .lists) (removing .standing) k k-fits k-some in
       record {
         rows = λ i l.
-            let pivot = leading-asked n m w (removing .columns) r size indices degrees (removing .pivots) i (omega (arith, k-fits))
-            (first-some (removing .columns) (removing .pivots) (removing .standing) i (omega arith)) in
+            let pivot = leading-asked n m w (removing .columns) r size indices degrees (removing .lists .pivots) i (omega (arith, k-fits))
+            (first-some (removing .columns) (removing .lists) (removing .standing) i (omega arith)) in
             other-row pivot (row-fits n m w (removing .columns) r size k k-fits) (pivot .height) (pivot .height-most);
-        index-room = omega (arith, k-fits, removing .index-room);
-        degree-room = omega (arith, k-fits, removing .degree-room);
+        index-room = omega (arith, k-fits, removing .lists .index-room);
+        degree-room = omega (arith, k-fits, removing .lists .degree-room);
       }
 
   -- and stays so while it is cleared
@@ -151,22 +149,21 @@ module _ {p reciprocal n m w k : ℕ} {r u v spare indices degrees : List ℕ} (
 
     pub clear-asked : RemoveAsked p reciprocal n m w k i (most - 1) r u v spare indices degrees
     clear-asked =
-        remove-asked (removing .columns) (removing .pivots) (removing .standing) turn
-        (removing .ready) (removing .index-room) (removing .degree-room) (removing .row-room) (removing .cell-room)
+        remove-asked (removing .columns) (removing .lists) (removing .standing) turn (removing .ready) (removing .row-room) (removing .cell-room)
 
     module _ {r′ u′ v′ : List ℕ} (d : SecondMove p n m w k i (most - 1) r u v indices degrees r′ u′ v′) where
       pub cleared-step : Cleared p n m w k 1 r u v r′ u′ v′ indices degrees
       cleared-step = record {
-        pivots = pivots-on (removing .columns) (removing .pivots) (removing .standing) turn d;
-        before = before-on (removing .columns) (removing .pivots) (removing .standing) turn d;
+        lists = lists-on (removing .columns) (removing .lists) (removing .standing) turn d;
+        before = before-on (removing .columns) (removing .lists) (removing .standing) turn d;
         reached = λ P rank A t s.
-            let next = removal (removing .columns) (removing .pivots) s turn in
+            let next = removal (removing .columns) (removing .lists) s turn in
             record {
               t′ = remove (zp-field p P) m w t next;
-              standing = standing-on (removing .columns) (removing .pivots) s turn d;
+              standing = standing-on (removing .columns) (removing .lists) s turn d;
               onward = λ c e q. rw (N.add-comm 1 c, add-one) (more next q);
             };
       }
 
       pub clear-falls : leftOf n m w r′ indices degrees < leftOf n m w r indices degrees
-      clear-falls = falls (removing .columns) (removing .pivots) (removing .standing) turn d
+      clear-falls = falls (removing .columns) (removing .lists) (removing .standing) turn d

@@ -22,7 +22,7 @@ use Rattle.popov.proofs.Carrying.{Carries, removed-carries}
 use Rattle.popov.proofs.Removing.{Removed}
 use Rattle.popov.proofs.SecondStep.{zero-excess, k-some, removed-row, values-kept, tidy-step, excesses-kept, left-falls}
 use Rattle.residues.specs.Modulus.{Ready}
-use Rattle.pivots.specs.Pivot.{valuesOf, Pivots}
+use Rattle.pivots.specs.Pivot.{valuesOf, PivotLists}
 use Rattle.stepping.specs.Holding.{Holding}
 use Rattle.planning.specs.Factor.{Divided}
 use Rattle.planning.specs.Asked.{CoefficientAsked}
@@ -38,7 +38,8 @@ within : (e low high spent less all : ℕ) → e + low ≤ high → 0 < low → 
 within e low high spent less all h some fits = omega arith
 
 -- row k, in the column of another row's pivot
-pub other-row : {m w i k x h h′ : ℕ} {r : List ℕ} → CoefficientAsked m w i x h r → k * (m * w) + m * w ≤ length r → 0 < h′ → h′ ≤ w → CoefficientAsked m w k x h′ r
+pub other-row : {m w i k x h h′ : ℕ} {r : List ℕ} → CoefficientAsked m w i x h r → k * (m * w) + m * w ≤ length r → 0 < h′ → h′ ≤ w
+    → CoefficientAsked m w k x h′ r
 other-row pivot row some most = record { row = row; column = pivot .column; column-most = pivot .column-most; height = some; height-most = most }
 
 -- the rows before k are cleared, and row k has the greatest excess over row i
@@ -51,7 +52,9 @@ pub record Turn (n m w k i most : ℕ) (r indices degrees : List ℕ) : Type 0 w
 
 -- a state that the buffers hold, with the pivots of its rows
 module _ {p n m w rank : ℕ} {P : Prime p} {A : ℕ → Row (Zp p)} {r u v indices degrees : List ℕ} {t : Carried (Zp p)} (columns : 0 < m)
-    (pivots : Pivots n m (valuesOf m w r) indices degrees) (s : Standing p P n m w rank A r u v t) where
+    (lists : PivotLists n m w r indices degrees) (s : Standing p P n m w rank A r u v t) where
+  open PivotLists lists using (index-room, degree-room, pivots)
+
   abbrev K : Field (Zp p)
   K = zp-field p P
 
@@ -142,9 +145,9 @@ module _ {p n m w rank : ℕ} {P : Prime p} {A : ℕ → Row (Zp p)} {r u v indi
         (omega (arith, room, height-now k k-fits, height-now i i-fits)) (omega (arith, low, height-now i i-fits))
         (spent-fits p P n m w A (s .holding) (s .carries .narrow) places (s .bounded) k k-fits)
 
-    pub remove-asked : {reciprocal : ℕ} {spare : List ℕ} → Ready p reciprocal → n ≤ length indices → n ≤ length degrees
-        → m * w ≤ length spare → n * w ≤ length spare → RemoveAsked p reciprocal n m w k i (most - 1) r u v spare indices degrees
-    remove-asked ready index-room degree-room row-room cell-room =
+    pub remove-asked : {reciprocal : ℕ} {spare : List ℕ} → Ready p reciprocal → m * w ≤ length spare → n * w ≤ length spare
+        → RemoveAsked p reciprocal n m w k i (most - 1) r u v spare indices degrees
+    remove-asked ready row-room cell-room =
         let size = s .holding .R .size in
         let pivot = pivot-asked n m w columns r size indices degrees pivots i i-fits (first-some i (omega (arith, i-before, k-first))) index-room degree-room in
         record {
@@ -202,11 +205,11 @@ module _ {p n m w rank : ℕ} {P : Prime p} {A : ℕ → Row (Zp p)} {r u v indi
       unfolding remove
       same-values j lj = sym (value-held p P n m w (holding′ .R) columns j lj) ∙ values-kept K n m w rank columns M (s .tidy) removal j ∙ value-is j lj
 
-      pub pivots-on : Pivots n m (valuesOf m w r′) indices degrees
-      pivots-on = record { row = λ j lj. rw (same-values j lj) (pivots .row j lj) }
+      pub lists-on : PivotLists n m w r′ indices degrees
+      lists-on = record { index-room = index-room; degree-room = degree-room; pivots = record { row = λ j lj. rw (same-values j lj) (pivots .row j lj) } }
 
       excess-on : (a j : ℕ) → a < n → j < n → excessAt m w r′ indices degrees a j ≡ excesses K m w (t′ .R) a j
-      excess-on = excess-held p P n m w columns (holding′ .R) pivots-on
+      excess-on = excess-held p P n m w columns (holding′ .R) (lists-on .pivots)
 
       pub before-on : ClearedTo m w k r′ indices degrees
       unfolding removal remove
@@ -221,7 +224,7 @@ module _ {p n m w rank : ℕ} {P : Prime p} {A : ℕ → Row (Zp p)} {r u v indi
       unfolding remove
       falls = omega (
         arith,
-        left-held p P n m w columns (holding′ .R) pivots-on,
+        left-held p P n m w columns (holding′ .R) (lists-on .pivots),
         left-held p P n m w columns (s .holding .R) pivots,
         left-falls K n m w rank columns M (s .tidy) removal,
       )

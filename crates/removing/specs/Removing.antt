@@ -13,7 +13,7 @@ use Rattle.popov.specs.SecondRun.{SecondRuns}
 use Rattle.popov.proofs.Ascending.{Tidy}
 use Rattle.popov.proofs.Carrying.{Carries}
 use Rattle.residues.specs.Modulus.{Ready}
-use Rattle.pivots.specs.Pivot.{valuesOf, Pivots}
+use Rattle.pivots.specs.Pivot.{PivotLists}
 use Rattle.stepping.specs.Holding.{Holding}
 use Rattle.planning.specs.Factor.{coefficientAt, leadingAt}
 use Rattle.stepping.specs.Move.{Moved}
@@ -50,9 +50,7 @@ pub record RemovingAsked (p reciprocal n m w : ℕ) (r u v spare indices degrees
   pub prime : Prime p
   pub columns : 0 < m
   pub places : 0 < w
-  pub pivots : Pivots n m (valuesOf m w r) indices degrees
-  pub index-room : n ≤ length indices
-  pub degree-room : n ≤ length degrees
+  pub lists : PivotLists n m w r indices degrees
   pub row-room : m * w ≤ length spare
   pub cell-room : n * w ≤ length spare
   pub rank : ℕ
@@ -79,7 +77,7 @@ pub record Reached (p : ℕ) (P : Prime p) (n m w rank : ℕ) (A : ℕ → Row (
 
 -- after `count` steps the rows before k are cleared; the pivots are as they were
 pub record Cleared (p n m w k count : ℕ) (r u v r′ u′ v′ indices degrees : List ℕ) : Type 0 where
-  pub pivots : Pivots n m (valuesOf m w r′) indices degrees
+  pub lists : PivotLists n m w r′ indices degrees
   pub before : ClearedTo m w k r′ indices degrees
   pub reached : (P : Prime p) (rank : ℕ) (A : ℕ → Row (Zp p)) (t : Carried (Zp p)) → Standing p P n m w rank A r u v t
       → Reached p P n m w rank A count t r′ u′ v′
@@ -92,6 +90,6 @@ pub record RemovedBy (p : ℕ) (P : Prime p) (n m w rank : ℕ) (A : ℕ → Row
 
 -- from whatever such state the buffers r, u and v held, whatever proof of primality is in hand
 pub record RemovedAll (p n m w count : ℕ) (r u v r′ u′ v′ indices degrees : List ℕ) : Type 0 where
-  pub pivots : Pivots n m (valuesOf m w r′) indices degrees
+  pub lists : PivotLists n m w r′ indices degrees
   pub by : (P : Prime p) (rank : ℕ) (A : ℕ → Row (Zp p)) (t : Carried (Zp p)) → Standing p P n m w rank A r u v t
       → RemovedBy p P n m w rank A count t r′ u′ v′

@@ -15,6 +15,7 @@ use Rattle.lists.specs.Total.{total}
 use Rattle.lists.proofs.Total.{total-same}
 use Rattle.buffers.specs.Place.{place}
 use Rattle.buffers.specs.Held.{Held, matrixOf}
+use Rattle.buffers.specs.Bounds.{Bounds, Checked}
 use Rattle.buffers.specs.Diagonal.{Diagonal}
 use Rattle.buffers.proofs.Place.{by-rows}
 use Rattle.buffers.proofs.Held.{held-matrixOf, held-bounded}
@@ -31,7 +32,6 @@ use Rattle.reduction.proofs.Degrees.{D, spent-since, Narrow, narrow-start}
 use Rattle.pivots.specs.Pivot.{valuesOf, degreesOf, Pivots}
 use Rattle.stepping.specs.Holding.{Holding}
 use Rattle.stepping.specs.Move.{FirstMove}
-use Rattle.running.specs.Asked.{InputAsked}
 use Rattle.running.specs.Reduced.{ReducedBy}
 use Rattle.stepping.proofs.Value.{value-held}
 use Rattle.stepping.proofs.Moving.{height-is, step-falls, move-narrow, move-holding}
@@ -46,7 +46,9 @@ pub record LoopAt (p : ℕ) (P : Prime p) (some : 0 < p) (n m w : ℕ) (a r u v 
   pub onward : (c : ℕ) (s : Carried (Zp p)) → Runs (zp-field p P) n m w c t s
       → Runs (zp-field p P) n m w (count + c) (begin (zp-field p P .ring) (matrixOf (by-rows n m w) p some a)) s
 
-module _ {p reciprocal n m w : ℕ} {a : List ℕ} (input : InputAsked p reciprocal n m w a) (P : Prime p) (some : 0 < p) where
+module _ {p reciprocal n m w : ℕ} {a : List ℕ} (input : Checked p reciprocal n m w a) (P : Prime p) (some : 0 < p) where
+  open Bounds (input .bounds) using (rows, columns, places)
+
   abbrev K : Field (Zp p)
   K = zp-field p P
 
@@ -64,8 +66,8 @@ module _ {p reciprocal n m w : ℕ} {a : List ℕ} (input : InputAsked p recipro
     t = begin (K .ring) A;
     holding = record {
       R = first;
-      U = held-identity p P n (n * w) (N.mul-pos (input .rows) (input .places)) du;
-      V′ = held-identity p P n w (input .places) dv;
+      U = held-identity p P n (n * w) (N.mul-pos rows places) du;
+      V′ = held-identity p P n w places dv;
     };
     narrow = narrow-start K n m w A;
     onward = λ c s x. rw N.zero-add x;
@@ -76,7 +78,7 @@ module _ {p reciprocal n m w : ℕ} {a : List ℕ} (input : InputAsked p recipro
     R = inv .t .R
 
     agree : (i : ℕ) → i < n → valuesOf m w r i ≡ values K m w R i
-    agree i li = sym (value-held p P n m w (inv .holding .R) (input .columns) i li)
+    agree i li = sym (value-held p P n m w (inv .holding .R) columns i li)
 
     -- where no step applies, the reduction is made
     pub loop-last : NoPair n m (valuesOf m w r) → ReducedBy p P some n m w count a r u v
@@ -104,13 +106,13 @@ module _ {p reciprocal n m w : ℕ} {a : List ℕ} (input : InputAsked p recipro
         applied = ap (λ (x : ℕ × ℕ). advance K m w (x .0) (x .1) (inv .t)) (the-pair .1)
 
         holds : Holding p n m w r′ u′ v′ t′
-        holds = move-holding p P n m w (input .columns) A bounded (input .places) r u v indices degrees r′ u′ v′ (inv .t) (inv .holding) (inv .narrow) pivots l k reducing d
+        holds = move-holding p P n m w columns A bounded places r u v indices degrees r′ u′ v′ (inv .t) (inv .holding) (inv .narrow) pivots l k reducing d
 
         pub loop-turn : LoopAt p P some n m w a r′ u′ v′ (count + 1)
         loop-turn = record {
           t = t′;
           holding = holds;
-          narrow = move-narrow p P n m w (input .columns) A bounded (input .places) r u v indices degrees r′ u′ v′ (inv .t) (inv .holding) (inv .narrow) pivots l k reducing d;
+          narrow = move-narrow p P n m w columns A bounded places r u v indices degrees r′ u′ v′ (inv .t) (inv .holding) (inv .narrow) pivots l k reducing d;
           onward = λ c s x. subst (λ (y : ℕ). Runs K n m w y (begin (K .ring) A) s) (shift c)
               (inv .onward (suc c) s (more (the-pair .0) (rw applied x)));
         }
@@ -120,15 +122,15 @@ module _ {p reciprocal n m w : ℕ} {a : List ℕ} (input : InputAsked p recipro
 
         -- the sum of the values falls
         pub loop-falls : total n (valuesOf m w r′) < total n (valuesOf m w r)
-        loop-falls = step-falls p P n m w (input .columns) r indices degrees R (inv .holding .R) pivots l k reducing (holds .R)
+        loop-falls = step-falls p P n m w columns r indices degrees R (inv .holding .R) pivots l k reducing (holds .R)
 
       -- `spent` is what all degrees have lost since a
       module _ (spent : ℕ) (lost : spent + total n (λ i. getD degrees i 0 - 1) ≡ total n (degreesOf m w a)) where
         height-now : (i : ℕ) → i < n → getD degrees i 0 ≡ height m (value K m w (R i))
-        height-now = height-is p P n m w (input .columns) r indices degrees R (inv .holding .R) pivots
+        height-now = height-is p P n m w columns r indices degrees R (inv .holding .R) pivots
 
         before : (i : ℕ) → i < n → degreesOf m w a i ≡ D K n m w A i
-        before i li = ap (λ (x : ℕ). height m x - 1) (sym (value-held p P n m w first (input .columns) i li))
+        before i li = ap (λ (x : ℕ). height m x - 1) (sym (value-held p P n m w first columns i li))
 
         now : (i : ℕ) → i < n → getD degrees i 0 - 1 ≡ D K n m w R i
         now i li = ap (λ (x : ℕ). x - 1) (height-now i li)
@@ -138,7 +140,7 @@ module _ {p reciprocal n m w : ℕ} {a : List ℕ} (input : InputAsked p recipro
 
         -- U has room for a row so shifted that it is as high as row l
         pub row-room : (l : ℕ) → l < n → getD degrees l 0 + spent ≤ n * w
-        row-room l ll = omega (arith, spent-is, height-now l ll, spent-fits p P n m w A (inv .holding) (inv .narrow) (input .places) bounded l ll)
+        row-room l ll = omega (arith, spent-is, height-now l ll, spent-fits p P n m w A (inv .holding) (inv .narrow) places bounded l ll)
 
         cut : (h s d reach least : ℕ) → 0 < h → least ≤ d → reach + least ≡ h + s → suc (h - 1 + s) - d ≤ reach
         cut h s d reach least some le is = omega arith
@@ -151,4 +153,4 @@ module _ {p reciprocal n m w : ℕ} {a : List ℕ} (input : InputAsked p recipro
             (omega (arith, height-now k lk, height-pos m (value K m w (R k)) (omega (arith, agree k lk)))) (all j lj) reach-is))
 
       pub column-short : (l : ℕ) → l < n → Short w (w + 1 - getD degrees l 0) n (λ i. place n w i l) v
-      column-short = v-short p P n m w A (inv .holding) (inv .narrow) (input .columns) (input .places) bounded pivots
+      column-short = v-short p P n m w A (inv .holding) (inv .narrow) columns places bounded pivots

@@ -11,19 +11,20 @@ use lib.Seq.{getD-set-other}
 use Rattle.algebra.specs.Prime.{Prime}
 use Rattle.lists.specs.Total.{total}
 use Rattle.lists.proofs.Total.{total-same, total-change}
+use Rattle.buffers.specs.Bounds.{Checked}
+use Rattle.buffers.proofs.Bounds.{matrix-few, cell-few}
 use Rattle.reduction.specs.Pair.{Reducing}
 use Rattle.reduction.proofs.Index.{clash-second}
 use Rattle.reduction.proofs.Pair.{pair-reducing}
 use Rattle.choosing.specs.Pair.{NextAsked, IsNextOf}
-use Rattle.pivots.specs.Pivot.{Pivots, leastDegree}
+use Rattle.pivots.specs.Pivot.{valuesOf, degreesOf, Pivots, leastDegree}
 use Rattle.choosing.specs.declared.pair.Next.the-variants.{Nothing, Rows}
 use Rattle.stepping.specs.Asked.{AdvanceAsked, Advanced}
-use Rattle.running.specs.Asked.{InputAsked}
+use Rattle.running.specs.Asked.{StartAsked}
 use Rattle.running.specs.Repeating.{RepeatAsked, Repeated}
 use Rattle.stepping.proofs.Following.{renew-asked}
 use Rattle.pivots.proofs.LeastDegree.{least-below}
 use Rattle.choosing.proofs.Next.{pivots-asked}
-use Rattle.pivots.specs.Pivot.{valuesOf, degreesOf}
 use Rattle.stepping.proofs.Value.{values-total}
 use Rattle.stepping.proofs.Short.{holding-matrices}
 use Rattle.running.proofs.Loop.{LoopAt, loop-start, loop-last, loop-turn, loop-falls, row-room, row-short, column-short}
@@ -48,19 +49,19 @@ pub record Running (p n m w : ℕ) (a u₀ v₀ spare₀ index₀ degree₀ r u 
   pub budget : count + total n (valuesOf m w r) ≤ total n (valuesOf m w a)
 
 module _ {p reciprocal n m w : ℕ} {a u₀ v₀ spare₀ index₀ degree₀ : List ℕ} (asked : RepeatAsked p reciprocal n m w a u₀ v₀ spare₀ index₀ degree₀) where
-  abbrev input : InputAsked p reciprocal n m w a
-  input = asked .start .input
+  open StartAsked (asked .start) using (input)
+  open Checked input using (prime, bounds)
 
   positive : 0 < p
-  positive = omega (arith, input .prime .two)
+  positive = omega (arith, prime .two)
 
   first-degrees : (i : ℕ) → i < n → getD degree₀ i 0 - 1 ≡ degreesOf m w a i
-  first-degrees i l = ap (λ (h : ℕ). h - 1) (asked .pivots .row i l .degree-is)
+  first-degrees i l = ap (λ (h : ℕ). h - 1) (asked .lists .pivots .row i l .degree-is)
 
   pub running-start : Running p n m w a u₀ v₀ spare₀ index₀ degree₀ a u₀ v₀ spare₀ index₀ degree₀ 0 0
   running-start = record {
     lengths = record { r-same = refl; u-same = refl; v-same = refl; spare-same = refl; index-same = refl; degree-same = refl };
-    pivots = asked .pivots;
+    pivots = asked .lists .pivots;
     lost = omega (arith, total-same n (λ i. getD degree₀ i 0 - 1) (degreesOf m w a) first-degrees);
     above = λ i l. omega (arith, least-below w n degree₀ i l);
     at = λ P some. loop-start input P some (asked .start .u-one) (asked .start .v-one);
@@ -69,24 +70,24 @@ module _ {p reciprocal n m w : ℕ} {a u₀ v₀ spare₀ index₀ degree₀ : L
 
   module _ {r u v spare indices degrees : List ℕ} {count spent : ℕ}
       (inv : Running p n m w a u₀ v₀ spare₀ index₀ degree₀ r u v spare indices degrees count spent) where
-    here : LoopAt p (input .prime) positive n m w a r u v count
-    here = inv .at (input .prime) positive
+    here : LoopAt p prime positive n m w a r u v count
+    here = inv .at prime positive
 
     size : length r ≡ n * (m * w)
     size = inv .lengths .r-same ∙ input .size
 
     index-room : n ≤ length indices
-    index-room = omega (arith, inv .lengths .index-same, asked .index-room)
+    index-room = omega (arith, inv .lengths .index-same, asked .lists .index-room)
 
     degree-room : n ≤ length degrees
-    degree-room = omega (arith, inv .lengths .degree-same, asked .degree-room)
+    degree-room = omega (arith, inv .lengths .degree-same, asked .lists .degree-room)
 
     -- the counter fits
     pub count-fits : count ≤ 4096
-    count-fits = omega (arith, inv .budget, values-total m w a n, input .small, ap (λ (x : ℕ). n * x) (N.mul-comm w m))
+    count-fits = omega (arith, inv .budget, values-total m w a n, matrix-few bounds, ap (λ (x : ℕ). n * x) (N.mul-comm w m))
 
     pub next-asked : NextAsked n indices degrees
-    next-asked = pivots-asked n m (valuesOf m w r) indices degrees (inv .pivots) (input .columns) (input .columns-most) index-room degree-room
+    next-asked = pivots-asked n m (valuesOf m w r) indices degrees (inv .pivots) (bounds .columns) (bounds .columns-most) index-room degree-room
 
     pub running-stop : IsNextOf n m (valuesOf m w r) Nothing → Repeated p n m w count a r u v indices
     running-stop none = record {
@@ -103,6 +104,8 @@ pub record Turn (p reciprocal n m w : ℕ) (a u₀ v₀ spare₀ index₀ degree
 module _ {p reciprocal n m w : ℕ} {a u₀ v₀ spare₀ index₀ degree₀ r u v spare indices degrees : List ℕ} {count spent l k : ℕ}
     (turn : Turn p reciprocal n m w a u₀ v₀ spare₀ index₀ degree₀ r u v spare indices degrees count spent l k) where
   open Turn turn using (asked, inv, next)
+  open StartAsked (asked .start) using (input)
+  open Checked input using (ready, prime, bounds)
 
   reducing : Reducing n m (valuesOf m w r) l k
   reducing = pair-reducing (next .0) (next .1)
@@ -117,37 +120,38 @@ module _ {p reciprocal n m w : ℕ} {a u₀ v₀ spare₀ index₀ degree₀ r u
   pub rows-fit : (l < length degrees) × (k < length degrees) × (l < 8) × (k < 8)
   rows-fit =
       let room = degree-room asked inv in
-      let few = input asked .rows-most in
+      let few = bounds .rows-most in
       (omega (arith, l-fits), omega (arith, k-fits), omega (arith, l-fits), omega (arith, k-fits))
 
   -- what row k of U has at most fits
-  pub reach-fits : (leastDegree w n degree₀ ≤ getD degrees k 0 + spent) × (getD degrees k 0 ≤ getD degrees l 0) × (getD degrees l 0 + spent ≤ n * w) × (n * w ≤ 512)
+  pub reach-fits : (leastDegree w n degree₀ ≤ getD degrees k 0 + spent) × (getD degrees k 0 ≤ getD degrees l 0)
+      × (getD degrees l 0 + spent ≤ n * w) × (n * w ≤ 512)
   reach-fits = (
     omega (arith, inv .above k k-fits),
     omega (arith, reducing .degrees, inv .pivots .row l l-fits .degree-is, inv .pivots .row k k-fits .degree-is),
-    row-room (input asked) (input asked .prime) (positive asked) (here asked inv) (inv .pivots) spent (inv .lost) l l-fits,
-    input asked .cell-few,
+    row-room input prime (positive asked) (here asked inv) (inv .pivots) spent (inv .lost) l l-fits,
+    cell-few bounds,
   )
 
   pub advance-asked : AdvanceAsked p reciprocal n m w l k (getD degrees k 0 + spent - leastDegree w n degree₀) r u v spare indices degrees
   advance-asked =
       let at = here asked inv in
       let matrices = holding-matrices (at .holding) in
-      let plan = plan-asked n m w (input asked .columns) r (size asked inv) indices degrees (inv .pivots)
-      (input asked .ready) (input asked .prime) (matrices .r-residues) (index-room asked inv) (degree-room asked inv) reducing in
+      let plan = plan-asked n m w (bounds .columns) r (size asked inv) indices degrees (inv .pivots)
+      ready prime (matrices .r-residues) (index-room asked inv) (degree-room asked inv) reducing in
       record {
         plan = plan;
-        columns = input asked .columns;
-        l-short = list-short n m w (input asked .columns) r (size asked inv) indices degrees (inv .pivots) l l-fits;
+        columns = bounds .columns;
+        l-short = list-short n m w (bounds .columns) r (size asked inv) indices degrees (inv .pivots) l l-fits;
         move = record {
           matrices = matrices;
           l-fits = l-fits;
           k-fits = k-fits;
           differ = reducing .apart;
-          r-short = list-short n m w (input asked .columns) r (size asked inv) indices degrees (inv .pivots) k k-fits;
-          u-short = row-short (input asked) (input asked .prime) (positive asked) at (inv .pivots) spent (inv .lost) k _ (leastDegree w n degree₀) k-fits
+          r-short = list-short n m w (bounds .columns) r (size asked inv) indices degrees (inv .pivots) k k-fits;
+          u-short = row-short input prime (positive asked) at (inv .pivots) spent (inv .lost) k _ (leastDegree w n degree₀) k-fits
               (clash-second (reducing .clash)) (λ i li. omega (arith, least-below w n degree₀ i li, first-degrees asked i li)) (omega (arith, reach-fits));
-          v-short = column-short (input asked) (input asked .prime) (positive asked) at (inv .pivots) l l-fits;
+          v-short = column-short input prime (positive asked) at (inv .pivots) l l-fits;
           r-room = omega (arith, reach-fits, plan .l-pivot .leading .height-most);
           u-room = omega (arith, reach-fits);
           v-room = omega (arith, reach-fits, plan .l-pivot .leading .height-most, plan .k-pivot .leading .height);
@@ -159,7 +163,8 @@ module _ {p reciprocal n m w : ℕ} {a u₀ v₀ spare₀ index₀ degree₀ r u
   -- after the step
   module _ (r′ u′ v′ indices′ degrees′ : List ℕ) (d : Advanced p n m w l k r u v indices degrees r′ u′ v′ indices′ degrees′) where
     after : Pivots n m (valuesOf m w r′) indices′ degrees′
-    after = pivots-after p n m w _ _ l k r r′ (size asked inv) l-fits (d .moved .subtracted .r-move) indices degrees indices′ degrees′ (index-room asked inv) (degree-room asked inv) (inv .pivots) (d .renewed)
+    after = pivots-after p n m w _ _ l k r r′ (size asked inv) l-fits (d .moved .subtracted .r-move) indices degrees indices′ degrees′
+        (index-room asked inv) (degree-room asked inv) (inv .pivots) (d .renewed)
 
     same-degrees : length degrees′ ≡ length degrees
     same-degrees = ap length (d .renewed .degrees-are) ∙ length-set degrees l _
@@ -170,13 +175,13 @@ module _ {p reciprocal n m w : ℕ} {a u₀ v₀ spare₀ index₀ degree₀ r u
     -- the height of row l has not grown
     pub lower : getD degrees′ l 0 ≤ getD degrees l 0
     lower =
-        let h = height-under n m w (input asked .columns) r′ (size-after p n m w _ _ l k r r′ (size asked inv) l-fits (d .moved .subtracted .r-move)) l (getD degrees l 0) l-fits
-        (renew-asked _ _ _ _ _ _ _ _ _ (advance-asked .plan) _ _ _ (d .moved .divided) r′ (d .moved .subtracted .r-move)
-        (input asked .columns) (advance-asked .l-short) (advance-asked .move .r-short) .short) in
+        let h = height-under n m w (bounds .columns) r′ (size-after p n m w _ _ l k r r′ (size asked inv) l-fits (d .moved .subtracted .r-move))
+        l (getD degrees l 0) l-fits (renew-asked _ _ _ _ _ _ _ _ _ (advance-asked .plan) _ _ _ (d .moved .divided) r′ (d .moved .subtracted .r-move)
+        (bounds .columns) (advance-asked .l-short) (advance-asked .move .r-short) .short) in
         omega (arith, after .row l l-fits .degree-is)
 
     pub falls : total n (valuesOf m w r′) < total n (valuesOf m w r)
-    falls = loop-falls (input asked) (input asked .prime) (positive asked) (here asked inv) (inv .pivots) (next .0) (next .1) (d .moved)
+    falls = loop-falls input prime (positive asked) (here asked inv) (inv .pivots) (next .0) (next .1) (d .moved)
 
     others : (i : ℕ) → i ≢ l → getD degrees′ i 0 ≡ getD degrees i 0
     others i ne = ap (λ (t : List ℕ). getD t i 0) (d .renewed .degrees-are) ∙ getD-set-other degrees l i _ 0 ne
@@ -201,6 +206,6 @@ module _ {p reciprocal n m w : ℕ} {a u₀ v₀ spare₀ index₀ degree₀ r u
         | yes e ↦ rw e (omega (arith, inv .above l l-fits, lower, high-is, low-is))
         | no ne ↦ omega (arith, inv .above i li, others i ne)
       ];
-      at = λ P some. loop-turn (input asked) P some (inv .at P some) (inv .pivots) (next .0) (next .1) (d .moved);
+      at = λ P some. loop-turn input P some (inv .at P some) (inv .pivots) (next .0) (next .1) (d .moved);
       budget = omega (arith, inv .budget, falls);
     }

@@ -12,6 +12,8 @@ use Rattle.algebra.proofs.PrimeField.{zp-field}
 use Rattle.lattice.specs.Row.{Row}
 use Rattle.buffers.specs.Held.{Held, matrixOf}
 use Rattle.buffers.specs.Added.{RowAdded}
+use Rattle.buffers.specs.Bounds.{Bounds, Checked}
+use Rattle.buffers.proofs.Bounds.{row-few}
 use Rattle.buffers.proofs.Place.{by-rows}
 use Rattle.buffers.proofs.Held.{held-matrixOf}
 use Rattle.rows.specs.Asked.{RowsInBuffer}
@@ -22,20 +24,20 @@ use Rattle.reduction.specs.Run.{step}
 use Rattle.reduction.proofs.Pair.{pair-reducing, no-pair-same, pair-same}
 use Rattle.reduction.proofs.SingleStep.{step-pair, step-none}
 use Rattle.choosing.specs.Pair.{NextAsked, IsNextOf}
-use Rattle.pivots.specs.Pivot.{valuesOf}
+use Rattle.pivots.specs.Pivot.{valuesOf, PivotLists}
 use Rattle.choosing.specs.declared.pair.Next.the-variants.{Rows}
 use Rattle.planning.specs.Factor.{Factor}
 use Rattle.planning.specs.Asked.{PlanAsked}
-use Rattle.running.specs.Asked.{InputAsked}
 use Rattle.running.specs.SteppedOnce.{SteppedOnce}
 use Rattle.stepping.proofs.Value.{value-held}
 use Rattle.stepping.proofs.Moving.{step-held}
 use Rattle.stepping.proofs.Following.{row-asked}
 use Rattle.choosing.proofs.Next.{pivots-asked}
 use Rattle.stepping.proofs.RowsOf.{list-short, plan-asked}
-use Rattle.running.proofs.Found.{Found}
 
-module _ {p reciprocal n m w : ℕ} {r : List ℕ} (asked : InputAsked p reciprocal n m w r) where
+module _ {p reciprocal n m w : ℕ} {r : List ℕ} (asked : Checked p reciprocal n m w r) where
+  open Bounds (asked .bounds) using (rows-most, columns, columns-most)
+
   -- the matrix that r holds
   module _ (P : Prime p) (some : 0 < p) where
     abbrev K : Field (Zp p)
@@ -52,7 +54,7 @@ module _ {p reciprocal n m w : ℕ} {r : List ℕ} (asked : InputAsked p recipro
 
     -- the values of its rows are those that are read off r
     agree : (i : ℕ) → i < n → valuesOf m w r i ≡ v i
-    agree i li = sym (value-held p P n m w first (asked .columns) i li)
+    agree i li = sym (value-held p P n m w first columns i li)
 
     -- the step on its pair, where that is rows l and k
     step-rows : (q : Pair n m v) {l k : ℕ} → target m v (q .a) (q .b) ≡ (l, k) → step K n m w A ≡ reduce-row K m w l k A
@@ -70,8 +72,8 @@ module _ {p reciprocal n m w : ℕ} {r : List ℕ} (asked : InputAsked p recipro
   }
 
   -- what the choice of the rows asks
-  pub choice-asked : {indices degrees : List ℕ} → Found n m (valuesOf m w r) indices degrees → NextAsked n indices degrees
-  choice-asked found = pivots-asked n m (valuesOf m w r) _ _ (found .pivots) (asked .columns) (asked .columns-most) (found .index-room) (found .degree-room)
+  pub choice-asked : {indices degrees : List ℕ} → PivotLists n m w r indices degrees → NextAsked n indices degrees
+  choice-asked found = pivots-asked n m (valuesOf m w r) _ _ (found .pivots) columns columns-most (found .index-room) (found .degree-room)
 
   -- rows l and k are to be reduced
   module _ {l k : ℕ} (next : IsNextOf n m (valuesOf m w r) (Rows l k)) where
@@ -80,19 +82,19 @@ module _ {p reciprocal n m w : ℕ} {r : List ℕ} (asked : InputAsked p recipro
 
     -- row k has its place among eight
     pub k-room : k < 8
-    k-room = omega (arith, reducing .k-fits, asked .rows-most)
+    k-room = omega (arith, reducing .k-fits, rows-most)
 
-    module _ {indices degrees : List ℕ} (found : Found n m (valuesOf m w r) indices degrees) where
+    module _ {indices degrees : List ℕ} (found : PivotLists n m w r indices degrees) where
       -- what the plan asks
       pub planning-asked : PlanAsked p reciprocal m w l k r indices degrees
-      planning-asked = plan-asked n m w (asked .columns) r (asked .size) indices degrees (found .pivots) (asked .ready) (asked .prime) (asked .residues)
+      planning-asked = plan-asked n m w columns r (asked .size) indices degrees (found .pivots) (asked .ready) (asked .prime) (asked .residues)
           (found .index-room) (found .degree-room) reducing
 
       module _ {e c f : ℕ} (g : Factor p m w l k r indices degrees e c f) where
         -- what the subtraction asks
         pub subtraction-asked : {spare : List ℕ} → length spare ≡ 512 → RowsInBuffer p reciprocal f e m w (getD degrees k 0) l k r spare
         subtraction-asked room = row-asked p reciprocal m w l k r indices degrees planning-asked e c f g
-            (list-short n m w (asked .columns) r (asked .size) indices degrees (found .pivots) k (reducing .k-fits)) (omega (arith, asked .row-few))
+            (list-short n m w columns r (asked .size) indices degrees (found .pivots) k (reducing .k-fits)) (omega (arith, row-few (asked .bounds)))
 
         -- the subtraction is the step
         pub stepped-pair : {r′ : List ℕ} → RowAdded p m w f e l k r r′ → SteppedOnce p n m w 1 r r′
@@ -101,7 +103,7 @@ module _ {p reciprocal n m w : ℕ} {r : List ℕ} (asked : InputAsked p recipro
               let (q, q-is) = pair-same n m _ _ (agree P some) (next .0) (l, k) (next .1) in
               record {
                 held = subst (Held (by-rows n m w) p r′) (sym (step-rows P some q q-is))
-                    (step-held p P n m w (asked .columns) r indices degrees (A P some) (first P some) (found .pivots) l k (pair-reducing q q-is) g added);
+                    (step-held p P n m w columns r indices degrees (A P some) (first P some) (found .pivots) l k (pair-reducing q q-is) g added);
                 counted = inr (refl, q);
               };
         }

@@ -5,25 +5,23 @@ use Prim.Native.Nat.{ℕ, zero, suc, _*_, _^_, _<_}
 use native.Mathlib.Omega.{arith}
 use lib.ListN.{length, getD}
 use Rattle.lists.proofs.Total.{total-same}
+use Rattle.buffers.proofs.Bounds.{row-few, cell-few}
 use Rattle.reduction.specs.Pivot.{index}
 use Rattle.reduction.specs.Rank.{sign}
-use Rattle.pivots.specs.Pivot.{valuesOf}
+use Rattle.pivots.specs.Pivot.{valuesOf, PivotLists}
 use Rattle.running.specs.Asked.{StartAsked}
 use Rattle.running.specs.Listed.{IsListed}
 use Rattle.running.specs.Reduced.{IsDone}
 use Rattle.running.specs.Repeating.{RepeatAsked, Repeated}
-use Rattle.running.proofs.Found.{Found}
 
 -- with the pivots and room for a row and for a cell of U the loop can begin
 pub repeat-asked : {p reciprocal n m w : ℕ} {r u v spare indices degrees : List ℕ} → StartAsked p reciprocal n m w r u v
-    → length spare ≡ 512 → Found n m (valuesOf m w r) indices degrees → RepeatAsked p reciprocal n m w r u v spare indices degrees
-repeat-asked asked spare found = record {
+    → length spare ≡ 512 → PivotLists n m w r indices degrees → RepeatAsked p reciprocal n m w r u v spare indices degrees
+repeat-asked asked spare lists = record {
   start = asked;
-  pivots = found .pivots;
-  index-room = found .index-room;
-  degree-room = found .degree-room;
-  row-room = omega (arith, asked .input .row-few);
-  cell-room = omega (arith, asked .input .cell-few);
+  lists = lists;
+  row-room = omega (arith, row-few (asked .input .bounds));
+  cell-room = omega (arith, cell-few (asked .input .bounds));
 }
 
 -- a pivot index is 0 where the row's value is

@@ -4,16 +4,14 @@ use mathlib.Core.List.{List}
 use Prim.Native.Nat.{ℕ, _*_, _≤_, _<_}
 use lib.ListN.{length, getD}
 use Rattle.reduction.specs.Pivot.{index}
-use Rattle.pivots.specs.Pivot.{valueOf, rowOf, Pivots}
+use Rattle.pivots.specs.Pivot.{valueOf, rowOf, PivotLists}
 use Rattle.running.specs.Asked.{StartAsked}
 use Rattle.running.specs.Reduced.{Reduced}
 
 -- a matrix in r with its pivots, U and V the identity, and room for a row and for a cell of U
 pub record RepeatAsked (p reciprocal n m w : ℕ) (r u v spare indices degrees : List ℕ) : Type 0 where
   pub start : StartAsked p reciprocal n m w r u v
-  pub pivots : Pivots n m (λ i. valueOf m w (rowOf m w r i)) indices degrees
-  pub index-room : n ≤ length indices
-  pub degree-room : n ≤ length degrees
+  pub lists : PivotLists n m w r indices degrees
   pub row-room : m * w ≤ length spare
   pub cell-room : n * w ≤ length spare
 

@@ -1,5 +1,6 @@
 // The reduction on buffers, with room of its own: a single step, and "this step repeated until none applies".
-ghost use Rattle.running.specs.Asked.{InputAsked, StartAsked};
+ghost use Rattle.buffers.specs.Bounds.{Checked};
+ghost use Rattle.running.specs.Asked.{StartAsked};
 ghost use Rattle.running.specs.Reduced.{IsDone};
 ghost use Rattle.running.specs.SteppedOnce.{SteppedOnce};
 use choosing::Next;
@@ -44,7 +45,7 @@ pub fn run(
 
 // One step on the matrix in r, and 1; or 0 where the form is reached.
 pub fn once(r: &mut [u16], n: usize, m: usize, w: usize, md: Modulus) -> u64
-    requires { ⌜ InputAsked (md .p) (md .reciprocal) n m w (now r) ⌝ }
+    requires { ⌜ Checked (md .p) (md .reciprocal) n m w (now r) ⌝ }
     ensures { λ count. ⌜ SteppedOnce (md .p) n m w count (now (r .entry)) (now (r .exit)) ⌝ }
 {
     let mut spare = scratch::room();

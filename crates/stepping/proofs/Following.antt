@@ -24,8 +24,8 @@ module _ {p reciprocal n m w l k e c f r-top u-top v-top : ℕ} {r u v spare : L
   pub r-asked : RowsInBuffer p reciprocal f e m w r-top l k r spare
   r-asked = record {
     multiplier = record { ready = ready; factor = f-below; room = move .r-room };
-    l-fits = omega (arith, move .matrices .r-size, line-end l n (m * w) (move .l-fits));
-    k-fits = omega (arith, move .matrices .r-size, line-end k n (m * w) (move .k-fits));
+    l-fits = omega (arith, move .matrices .sizes .r-size, line-end l n (m * w) (move .l-fits));
+    k-fits = omega (arith, move .matrices .sizes .r-size, line-end k n (m * w) (move .k-fits));
     residues = move .matrices .r-residues;
     short = move .r-short;
     spare-room = move .row-room;
@@ -36,7 +36,7 @@ module _ {p reciprocal n m w l k e c f r-top u-top v-top : ℕ} {r u v spare : L
     pub u-asked : LinePair p reciprocal f e n (n * w) u-top l k (place n (n * w) k) u spare′
     u-asked = record {
       multiplier = record { ready = ready; factor = f-below; room = move .u-room };
-      size = move .matrices .u-size;
+      size = move .matrices .sizes .u-size;
       x-fits = move .l-fits;
       y-fits = move .k-fits;
       differ = move .differ;
@@ -48,7 +48,7 @@ module _ {p reciprocal n m w l k e c f r-top u-top v-top : ℕ} {r u v spare : L
     pub v-asked : LinePair p reciprocal c e n w v-top k l (λ i. place n w i l) v spare′
     v-asked = record {
       multiplier = record { ready = ready; factor = c-below; room = move .v-room };
-      size = move .matrices .v-size;
+      size = move .matrices .sizes .v-size;
       x-fits = move .k-fits;
       y-fits = move .l-fits;
       differ = λ q. move .differ (sym q);

@@ -20,14 +20,15 @@ use Rattle.reduction.specs.Step.{Carried}
 use Rattle.reduction.proofs.Degrees.{D, spent-since, Narrow, degrees-most}
 use Rattle.pivots.specs.Pivot.{valuesOf, Pivots}
 use Rattle.stepping.specs.Holding.{Holding}
-use Rattle.stepping.specs.Asked.{Matrices}
+use Rattle.stepping.specs.Asked.{Sizes, Matrices}
 use Rattle.stepping.proofs.Moving.{height-is}
+
+pub holding-sizes : {p n m w : ℕ} {r u v : List ℕ} {t : Carried (Zp p)} → Holding p n m w r u v t → Sizes n m w r u v
+holding-sizes h = record { r-size = h .R .size; u-size = h .U .size; v-size = h .V′ .size }
 
 pub holding-matrices : {p n m w : ℕ} {r u v : List ℕ} {t : Carried (Zp p)} → Holding p n m w r u v t → Matrices p n m w r u v
 holding-matrices {p} {n} {m} {w} h = record {
-  r-size = h .R .size;
-  u-size = h .U .size;
-  v-size = h .V′ .size;
+  sizes = holding-sizes h;
   r-residues = held-coefficients (by-rows n m w) p (h .R);
   u-residues = held-coefficients (by-rows n n (n * w)) p (h .U);
   v-residues = held-coefficients (by-rows n n w) p (h .V′);

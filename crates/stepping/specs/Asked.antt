@@ -13,11 +13,15 @@ use Rattle.pivots.specs.Pivot.{valueOf, rowOf}
 use Rattle.planning.specs.Asked.{PlanAsked}
 use Rattle.stepping.specs.Move.{FirstMove}
 
--- R, U and V in buffers, of which a cell of U has n·(d+1) places
-pub record Matrices (p n m w : ℕ) (r u v : List ℕ) : Type 0 where
+-- buffers for R, U and V, of which a cell of U has n·(d+1) places
+pub record Sizes (n m w : ℕ) (r u v : List ℕ) : Type 0 where
   pub r-size : length r ≡ n * (m * w)
   pub u-size : length u ≡ n * (n * (n * w))
   pub v-size : length v ≡ n * (n * w)
+
+-- they have residues
+pub record Matrices (p n m w : ℕ) (r u v : List ℕ) : Type 0 where
+  pub sizes : Sizes n m w r u v
   pub r-residues : Coefficients p r
   pub u-residues : Coefficients p u
   pub v-residues : Coefficients p v

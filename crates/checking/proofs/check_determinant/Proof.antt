@@ -3,9 +3,10 @@ use borrow.Author.Needs.{needs}
 use mathlib.Core.Path.{refl, subst, ap₂}
 use mathlib.Core.Bool.{true}
 use mathlib.Core.List.{_∷_}
+use Rattle.buffers.proofs.Bounds.{row-few, matrix-few}
 use Rattle.refusals.specs.Refused.{Numbers}
 use Rattle.checking.specs.Part.{OfNumbers, OfLengths}
-use Rattle.checking.proofs.Verdicts.{not-square, row-few, matrix-few, determinant-few}
+use Rattle.checking.proofs.Verdicts.{not-square, determinant-few, in-bounds}
 use Rattle.checking.proofs.check_determinant.Statement.{statement}
 use Rattle.checking.proofs.check_determinant.Tie as tie
 
@@ -32,16 +33,16 @@ add-check-lengths : tie.Need-add-check-lengths
 add-check-lengths c = omega (arith, numbers (c .before) .degree)
 
 mul-check-lengths : tie.Need-mul-check-lengths
-mul-check-lengths c = omega (arith, row-few _ _ _ _ (numbers (c .before)))
+mul-check-lengths c = omega (arith, row-few (in-bounds (numbers (c .before))))
 
 mul-check-lengths-2 : tie.Need-mul-check-lengths-2
-mul-check-lengths-2 c = omega (arith, matrix-few _ _ _ _ (numbers (c .before)))
+mul-check-lengths-2 c = omega (arith, matrix-few (in-bounds (numbers (c .before))))
 
 mul-check-lengths-3 : tie.Need-mul-check-lengths-3
-mul-check-lengths-3 c = omega (arith, determinant-few _ _ _ _ (numbers (c .before)))
+mul-check-lengths-3 c = omega (arith, determinant-few (numbers (c .before)))
 
 add-check-lengths-2 : tie.Need-add-check-lengths-2
-add-check-lengths-2 c = omega (arith, determinant-few _ _ _ _ (numbers (c .before)))
+add-check-lengths-2 c = omega (arith, determinant-few (numbers (c .before)))
 
 check-lengths-requires : tie.Need-check-lengths-requires
 check-lengths-requires c κs = search needs

@@ -2,9 +2,10 @@ use native.Mathlib.Omega.{arith}
 use borrow.Author.Needs.{needs}
 use mathlib.Core.Path.{subst}
 use mathlib.Core.Bool.{false}
+use Rattle.buffers.proofs.Bounds.{row-few, matrix-few}
 use Rattle.refusals.specs.Refused.{Numbers}
 use Rattle.checking.specs.Part.{OfNumbers}
-use Rattle.checking.proofs.Verdicts.{matrix-lengths, row-few, matrix-few}
+use Rattle.checking.proofs.Verdicts.{matrix-lengths, in-bounds}
 use Rattle.checking.proofs.check_matrix.Statement.{statement}
 use Rattle.checking.proofs.check_matrix.Tie as tie
 
@@ -28,10 +29,10 @@ add-places : tie.Need-add-places
 add-places c = omega (arith, numbers c .degree)
 
 mul-places : tie.Need-mul-places
-mul-places c = omega (arith, row-few _ _ _ _ (numbers c))
+mul-places c = omega (arith, row-few (in-bounds (numbers c)))
 
 mul-places-2 : tie.Need-mul-places-2
-mul-places-2 c = omega (arith, matrix-few _ _ _ _ (numbers c))
+mul-places-2 c = omega (arith, matrix-few (in-bounds (numbers c)))
 
 check-lengths-requires : tie.Need-check-lengths-requires
 check-lengths-requires c κs = search needs

@@ -5,9 +5,10 @@ use mathlib.Core.Bool.{false}
 use mathlib.Core.List.{_∷_}
 use denote.Ref.{now}
 use lib.ListN.{length}
+use Rattle.buffers.proofs.Bounds.{cell-few, square-few, transform-few}
 use Rattle.checking.specs.Part.{OfMatrix}
 use Rattle.refusals.specs.declared.Check.the-variants.{Fine}
-use Rattle.checking.proofs.Verdicts.{wrong-here, wrong-later, wrong-length, cell-few, square-few, transform-few}
+use Rattle.checking.proofs.Verdicts.{wrong-here, wrong-later, wrong-length, in-bounds}
 use Rattle.checking.proofs.check_reduction.Statement.{statement}
 use Rattle.checking.proofs.check_reduction.Tie as tie
 
@@ -31,13 +32,13 @@ add-cell : tie.Need-add-cell
 add-cell c = omega (arith, known c .0 .degree)
 
 mul-cell : tie.Need-mul-cell
-mul-cell c = omega (arith, cell-few _ _ _ _ (known c .0))
+mul-cell c = omega (arith, cell-few (in-bounds (known c .0)))
 
 mul-if1 : tie.Need-mul-if1
-mul-if1 c = omega (arith, square-few _ _ _ _ (known c .0))
+mul-if1 c = omega (arith, square-few (in-bounds (known c .0)))
 
 mul-if1-2 : tie.Need-mul-if1-2
-mul-if1-2 c = omega (arith, transform-few _ _ _ _ (known c .0))
+mul-if1-2 c = omega (arith, transform-few (in-bounds (known c .0)))
 
 returns-2 : tie.Need-returns-2
 returns-2 c =
@@ -45,7 +46,7 @@ returns-2 c =
     wrong-length false _ _ _ _ _ _ _ (k .0) tt 3 (wrong-later _ _ 2 _ _ (k .1) (wrong-later _ _ 1 _ _ (k .2) (wrong-here _ _ _ _ (c .if1 .taken))))
 
 mul-if2 : tie.Need-mul-if2
-mul-if2 c = omega (arith, square-few _ _ _ _ (known (c .before) .0))
+mul-if2 c = omega (arith, square-few (in-bounds (known (c .before) .0)))
 
 returns-3 : tie.Need-returns-3
 returns-3 c =

@@ -15,7 +15,7 @@ inverse-requires : tie.Need-inverse-requires
 inverse-requires c κs =
     let start = c .before .before .before .before .before .before .before in
     let some : 0 < start .args .x .0 = omega arith in
-    (start .pre .matrices .ready, (start .pre .matrices .prime, rw (c .coefficient .ensures) (start .pre .nonzero some, leading-below (start .pre) some)))
+    (start .pre .ready, (start .pre .prime, rw (c .coefficient .ensures) (start .pre .nonzero some, leading-below (start .pre) some)))
 
 scale-row-requires : tie.Need-scale-row-requires
 scale-row-requires c κs = r-row (c .before .before .before .before .before .before .before .before .before .pre)
@@ -31,7 +31,7 @@ scale-row-requires-2 c κs = u-row (c .before .before .before .before .before .b
 scale-column-requires : tie.Need-scale-column-requires
 scale-column-requires c κs =
     let pre = c .before .before .before .before .before .before .before .before .before .before .before .before .before .before .before .before .before .pre in
-    record { ready = pre .matrices .ready; size = pre .matrices .v-size; x-fits = pre .fits }
+    record { ready = pre .ready; size = pre .matrices .sizes .v-size; x-fits = pre .fits }
 
 same-length : tie.Need-same-length
 same-length c = search needs

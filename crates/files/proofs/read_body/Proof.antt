@@ -7,9 +7,10 @@ use native.Mathlib.Omega.{arith}
 use Prim.Native.Nat.{ℕ, _+_, _*_, _≤_}
 use lib.ListN.{length, take, drop, length-append}
 use lib.Seq.{length-take-le, take-at}
+use Rattle.buffers.proofs.Bounds.{matrix-few}
 use Rattle.refusals.specs.Refused.{Numbers}
 use Rattle.checking.specs.Part.{OfNumbers, OfCoefficients}
-use Rattle.checking.proofs.Verdicts.{matrix-few}
+use Rattle.checking.proofs.Verdicts.{in-bounds}
 use Rattle.format.specs.Line.{read}
 use Rattle.format.specs.File.{cellLines}
 use Rattle.files.specs.Input.{MatrixRead}
@@ -33,7 +34,7 @@ few-cells c =
     mul-le-mul {n₁ = start c .args .n} {m₁ = start c .args .m} {n₂ = 8} {m₂ = 8} (shape .rows-most) (shape .columns-most)
 
 few-places : (c : tie.After-enum-told) → places c ≤ 4096
-few-places c = omega (arith, matrix-few _ _ _ _ (numbers c), mul-assoc (start c .args .n) (start c .args .m) (start c .args .d + 1))
+few-places c = omega (arith, matrix-few (in-bounds (numbers c)), mul-assoc (start c .args .n) (start c .args .m) (start c .args .d + 1))
 
 within : (c : tie.After-enum-told) → places c ≤ length (start c .args .room .now)
 within c = omega (arith, few-places c, start c .pre .places)

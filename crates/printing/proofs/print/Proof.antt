@@ -5,8 +5,9 @@ use borrow.Author.Needs.{needs}
 use native.Mathlib.Omega.{arith}
 use lib.ListN.{length, take}
 use lib.Seq.{length-take-le}
+use Rattle.buffers.proofs.Bounds.{row-few, matrix-few}
 use Rattle.refusals.proofs.Answering.{refusal-number}
-use Rattle.checking.proofs.Verdicts.{row-few, matrix-few}
+use Rattle.checking.proofs.Verdicts.{in-bounds}
 use Rattle.files.specs.Input.{FileRead}
 use Rattle.files.specs.declared.Input.{Input}
 use Rattle.files.specs.declared.Input.the-variants.{Format, Refused, Matrix}
@@ -48,7 +49,7 @@ asked : (c : tie.After-p) → let found = c .p .given .0 in
 asked c = matrix-asked (text (arm c)) (matrix c) (full (arm c))
 
 within : (c : tie.After-p) → let found = c .p .given .0 in found .1 .0 * (found .1 .1 .0 * (found .1 .1 .1 .0 + 1)) ≤ length (room (arm c))
-within c = omega (arith, matrix-few _ _ _ _ (asked c .numbers), full (arm c))
+within c = omega (arith, matrix-few (in-bounds (asked c .numbers)), full (arm c))
 
 places-requires : tie.Need-places-requires
 places-requires c κs = search needs
@@ -78,10 +79,10 @@ add-size : tie.Need-add-size
 add-size c = omega (arith, asked (c .before) .numbers .degree)
 
 mul-size : tie.Need-mul-size
-mul-size c = omega (arith, row-few _ _ _ _ (asked (c .before) .numbers))
+mul-size c = omega (arith, row-few (in-bounds (asked (c .before) .numbers)))
 
 mul-size-2 : tie.Need-mul-size-2
-mul-size-2 c = omega (arith, matrix-few _ _ _ _ (asked (c .before) .numbers))
+mul-size-2 c = omega (arith, matrix-few (in-bounds (asked (c .before) .numbers)))
 
 array-share-prefix-room : tie.Need-array-share-prefix-room
 array-share-prefix-room c = within (c .before .before)

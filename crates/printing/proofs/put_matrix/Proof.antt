@@ -5,8 +5,9 @@ use borrow.Author.Needs.{needs}
 use native.Mathlib.Omega.{arith}
 use lib.ListN.{length, take, drop}
 use lib.Seq.{length-take-le, length-front, take-at}
+use Rattle.buffers.proofs.Bounds.{row-few, matrix-few, cell-few, square-few, transform-few}
 use Rattle.refusals.specs.Refused.{Numbers}
-use Rattle.checking.proofs.Verdicts.{row-few, matrix-few, cell-few, square-few, transform-few}
+use Rattle.checking.proofs.Verdicts.{in-bounds}
 use Rattle.printing.proofs.Answers.{ReducedTo, reduced-to}
 use Rattle.printing.proofs.put_matrix.Statement.{statement}
 use Rattle.printing.proofs.put_matrix.Tie as tie
@@ -28,13 +29,13 @@ abbrev v-size : tie.After-places2 → ℕ
 v-size c = let args = start c .args in args .n * (args .n * (args .d + 1))
 
 r-within : (c : tie.After-places2) → r-size c ≤ length (c .before .before .places .result)
-r-within c = omega (arith, matrix-few _ _ _ _ (numbers c), c .before .before .places .ensures)
+r-within c = omega (arith, matrix-few (in-bounds (numbers c)), c .before .before .places .ensures)
 
 u-within : (c : tie.After-places2) → u-size c ≤ length (c .before .transform .result)
-u-within c = omega (arith, transform-few _ _ _ _ (numbers c), c .before .transform .ensures)
+u-within c = omega (arith, transform-few (in-bounds (numbers c)), c .before .transform .ensures)
 
 v-within : (c : tie.After-places2) → v-size c ≤ length (c .places2 .result)
-v-within c = omega (arith, square-few _ _ _ _ (numbers c), c .places2 .ensures)
+v-within c = omega (arith, square-few (in-bounds (numbers c)), c .places2 .ensures)
 
 -- after the reduction
 abbrev made : tie.After-reduce → tie.After-places2
@@ -80,25 +81,25 @@ add-size : tie.Need-add-size
 add-size c = omega (arith, numbers c .degree)
 
 mul-size : tie.Need-mul-size
-mul-size c = omega (arith, row-few _ _ _ _ (numbers c))
+mul-size c = omega (arith, row-few (in-bounds (numbers c)))
 
 mul-size-2 : tie.Need-mul-size-2
-mul-size-2 c = omega (arith, matrix-few _ _ _ _ (numbers c))
+mul-size-2 c = omega (arith, matrix-few (in-bounds (numbers c)))
 
 add-cell : tie.Need-add-cell
 add-cell c = omega (arith, numbers c .degree)
 
 mul-cell : tie.Need-mul-cell
-mul-cell c = omega (arith, cell-few _ _ _ _ (numbers c))
+mul-cell c = omega (arith, cell-few (in-bounds (numbers c)))
 
 mul-u-size : tie.Need-mul-u-size
-mul-u-size c = omega (arith, square-few _ _ _ _ (numbers c))
+mul-u-size c = omega (arith, square-few (in-bounds (numbers c)))
 
 mul-u-size-2 : tie.Need-mul-u-size-2
-mul-u-size-2 c = omega (arith, transform-few _ _ _ _ (numbers c))
+mul-u-size-2 c = omega (arith, transform-few (in-bounds (numbers c)))
 
 mul-v-size : tie.Need-mul-v-size
-mul-v-size c = omega (arith, square-few _ _ _ _ (numbers c))
+mul-v-size c = omega (arith, square-few (in-bounds (numbers c)))
 
 array-borrow-prefix-r : tie.Need-array-borrow-prefix-r
 array-borrow-prefix-r c = r-within c

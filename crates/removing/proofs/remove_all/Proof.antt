@@ -25,10 +25,10 @@ loop-holds : tie.Need-loop-holds Inv-loop μ-loop
 loop-holds c = (cleared-start (c .before .before .before .before .before .before .pre) (record { none = λ a j l la. absurd (omega arith) }), refl)
 
 mul-if1 : tie.Need-mul-if1 Inv-loop μ-loop
-mul-if1 c = omega (arith, asked (c .before) .index-room)
+mul-if1 c = omega (arith, asked (c .before) .lists .index-room)
 
 shared-slice-read-if1 : tie.Need-shared-slice-read-if1 Inv-loop μ-loop
-shared-slice-read-if1 c = omega (arith, asked (c .before .before) .index-room)
+shared-slice-read-if1 c = omega (arith, asked (c .before .before) .lists .index-room)
 
 same-length : tie.Need-same-length Inv-loop μ-loop
 same-length c = let head = c .before .before .before in r-same (asked head) (head .loop .inv .0)

@@ -2,10 +2,10 @@ use mathlib.Core.Path.{sym}
 use native.Mathlib.Omega.{arith}
 use denote.Ref.{now}
 use Rattle.choosing.specs.Pair.{IsNextOf}
-use Rattle.pivots.specs.Pivot.{valuesOf}
+use Rattle.pivots.specs.Pivot.{valuesOf, PivotLists}
 use Rattle.choosing.specs.declared.pair.Next.the-variants.{Rows}
 use Rattle.choosing.proofs.Next.{next-is}
-use Rattle.running.proofs.Found.{Found, found}
+use Rattle.running.proofs.Found.{found}
 use Rattle.running.proofs.SingleStep.{stepped-none, choice-asked, k-room, planning-asked, subtraction-asked, stepped-pair}
 use borrow.Author.Needs.{needs}
 use Rattle.running.proofs.once.Statement.{statement}
@@ -13,10 +13,10 @@ use Rattle.running.proofs.once.Tie as tie
 
 -- the pivots
 at-hand : (c : tie.After-all) → let args = c .before .before .before .before .before .before .before .before .args in
-    Found (args .n) (args .m) (valuesOf (args .m) (args .w) (now (args .r))) (c .all .last .1 .0) (c .all .last .1 .1 .0)
+    PivotLists (args .n) (args .m) (args .w) (now (args .r)) (c .all .last .1 .0) (c .all .last .1 .1 .0)
 at-hand c =
     let made = c .before .before .before .before in
-    found (c .before .before .before .before .before .before .before .before .pre .rows-most) (made .before .eight .ensures .0) (made .eight2 .ensures .0) (c .all .kept .1 .0) (c .all .kept .1 .1 .0) (c .all .ensures)
+    found (c .before .before .before .before .before .before .before .before .pre .bounds .rows-most) (made .before .eight .ensures .0) (made .eight2 .ensures .0) (c .all .kept .1 .0) (c .all .kept .1 .1 .0) (c .all .ensures)
 
 -- the rows that the step is made on
 next : (c : tie.After-l) → let args = c .before .before .before .before .before .before .before .before .before .before .before .before .before .before .before .args in

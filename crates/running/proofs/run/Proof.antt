@@ -1,7 +1,7 @@
 use native.Mathlib.Omega.{arith}
 use denote.Ref.{now}
-use Rattle.pivots.specs.Pivot.{valuesOf}
-use Rattle.running.proofs.Found.{Found, found}
+use Rattle.pivots.specs.Pivot.{PivotLists}
+use Rattle.running.proofs.Found.{found}
 use Rattle.running.proofs.Whole.{repeat-asked, is-done}
 use borrow.Author.Needs.{needs}
 use Rattle.running.proofs.run.Statement.{statement}
@@ -9,10 +9,10 @@ use Rattle.running.proofs.run.Tie as tie
 
 -- the pivots
 at-hand : (c : tie.After-all) → let args = c .before .before .before .before .before .before .before .before .before .before .args in
-    Found (args .n) (args .m) (valuesOf (args .m) (args .w) (now (args .r))) (c .all .last .1 .0) (c .all .last .1 .1 .0)
+    PivotLists (args .n) (args .m) (args .w) (now (args .r)) (c .all .last .1 .0) (c .all .last .1 .1 .0)
 at-hand c =
     let made = c .before .before .before .before in
-    found (c .before .before .before .before .before .before .before .before .before .before .pre .input .rows-most) (made .before .eight .ensures .0) (made .eight2 .ensures .0) (c .all .kept .1 .0) (c .all .kept .1 .1 .0) (c .all .ensures)
+    found (c .before .before .before .before .before .before .before .before .before .before .pre .input .bounds .rows-most) (made .before .eight .ensures .0) (made .eight2 .ensures .0) (c .all .kept .1 .0) (c .all .kept .1 .1 .0) (c .all .ensures)
 
 room-requires : tie.Need-room-requires
 room-requires c κs = search needs
@@ -53,7 +53,7 @@ list-requires : tie.Need-list-requires
 list-requires c κs =
     let ran = c .before .before .before .before .before .before .before .before .before .before in
     let all = ran .before .before .before .before .before .before .before .before .before in
-    record { few = all .before .before .before .before .before .before .before .before .before .before .pre .input .rows-most; room = omega (arith, ran .repeat .kept .1 .1 .1 .1 .0, at-hand all .index-room) }
+    record { few = all .before .before .before .before .before .before .before .before .before .before .pre .input .bounds .rows-most; room = omega (arith, ran .repeat .kept .1 .1 .1 .1 .0, at-hand all .index-room) }
 
 same-length : tie.Need-same-length
 same-length c = search needs

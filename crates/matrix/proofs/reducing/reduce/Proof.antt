@@ -3,8 +3,9 @@ use mathlib.Core.Path.{subst}
 use mathlib.Core.Bool.{false}
 use denote.Ref.{now}
 use Rattle.residues.proofs.Range.{in-range}
+use Rattle.buffers.proofs.Bounds.{cell-few}
 use Rattle.refusals.specs.Refused.{Verdict}
-use Rattle.checking.proofs.Verdicts.{cell-few}
+use Rattle.checking.proofs.Verdicts.{in-bounds}
 use Rattle.refusals.proofs.Answering.{answer-refused}
 use Rattle.matrix.proofs.Service.{Passed, order, copy-fits, u-square, v-square, start-asked, answered}
 use borrow.Author.Needs.{needs}
@@ -35,7 +36,7 @@ copy-requires : tie.Need-copy-requires
 copy-requires c κs = copy-fits (known (c .before))
 
 mul-write-identity : tie.Need-mul-write-identity
-mul-write-identity c = omega (arith, cell-few _ _ _ _ (order (known (c .before .before .before .before .before)) .numbers))
+mul-write-identity c = omega (arith, cell-few (in-bounds (order (known (c .before .before .before .before .before)) .numbers)))
 
 write-identity-requires : tie.Need-write-identity-requires
 write-identity-requires c κs = u-square (known (c .before .before .before .before .before))
