@@ -16,6 +16,7 @@ class Function(NamedTuple):
     name: str
     requires: bool
     ensures: bool
+    silent: list  # the buffers lent to be written of which `ensures` does not say what they hold at exit
 
 
 def listed_crates():
@@ -55,4 +56,6 @@ def public_functions():
                     continue
                 path = owner if owner else "" if module == "lib" or name in exported else module
                 has = lambda word: any(line.startswith(word + " {") for line in head)
-                yield Function(crate, f"{path}::{name}" if path else name, has("requires"), has("ensures"))
+                lent = re.findall(r"(\w+): &mut", " ".join(head))
+                silent = [buffer for buffer in lent if not any(f"({buffer} .exit)" in line for line in head)]
+                yield Function(crate, f"{path}::{name}" if path else name, has("requires"), has("ensures"), silent)

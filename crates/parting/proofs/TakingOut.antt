@@ -2,54 +2,65 @@
 use mathlib.Core.Path.{_≡_, refl, sym, _∙_}
 use mathlib.Core.Bool.{true}
 use mathlib.Core.List.{List, _++_}
-use Prim.Native.Nat.{ℕ, suc, _+_, _-_, _*_, _%_, _≤_, _<_}
+use Prim.Native.Nat.{ℕ, suc, _+_, _*_, _%_, _≤_, _<_}
 use native.Mathlib.Nat as N
 use native.Mathlib.Omega.{arith}
-use lib.Dec.{eqb}
+use borrow.Author.Count.{below-more}
 use lib.ListN.{length, getD, take}
 use lib.Seq.{take-at, length-take-le}
 use Rattle.algebra.proofs.Cases.{case-le}
 use Rattle.lists.specs.Part.{part}
-use Rattle.lists.proofs.First.{Seeking, seeking-start, seeking-on, seeking-found, seeking-end}
 use Rattle.lists.proofs.Grid.{line-end}
 use Rattle.lists.proofs.Skip.{skip-fits}
 use Rattle.parting.specs.Parting.{PartAsked, Parted}
 use Rattle.parting.specs.Signed.{signedProduct}
-use Rattle.parting.specs.TakingOut.{LowestZero, negative, ZeroFound, TakeAsked, TakenOut}
+use Rattle.parting.specs.TakingOut.{LowestZero, negative, IsLower, ZeroFound, TakeAsked, TakenOut}
+use Rattle.parting.specs.declared.taking.ZeroRow.{ZeroRow}
 use Rattle.parting.proofs.Parting.{one-column}
 
--- the rows from row k on are even in number where k + m is odd
-pub sign-by-rows : (m k left : ℕ) → left + k ≡ suc m → eqb (left % 2) 0 ≡ negative m k
-sign-by-rows m k left all = case-le 1 (left % 2)
-    (λ odd. let e : left % 2 ≡ 1 = omega arith in let f : (k + m) % 2 ≡ 0 = omega arith in rw (e, f) refl)
-    (λ even. let e : left % 2 ≡ 0 = omega arith in let f : (k + m) % 2 ≡ 1 = omega arith in rw (e, f) refl)
+-- where the search for the row stands when it has come to row i: of the rows before it x is the lowest zero one, with its sign, or
+-- row m + 1 where none is zero
+pub record Seen (m : ℕ) (indices : List ℕ) (i : ℕ) (x : ZeroRow) : Type 0 where
+  pub within : x .k ≤ suc m
+  pub here : x .k < suc m → getD indices (x .k) 0 ≡ 0
+  pub before : (j : ℕ) → j < i → j < x .k → ¬ (getD indices j 0 ≡ 0)
+  pub sign-is : x .negative ≡ negative m (x .k)
 
--- where the search for the row stands, when `left` rows are left to look at
-pub record Looking (m : ℕ) (indices : List ℕ) (left : ℕ) : Type 0 where
-  pub few : left ≤ suc m
-  pub seeking : Seeking (suc m) (λ i. getD indices i 0 ≡ 0) (suc m - left)
+module _ {m : ℕ} {indices : List ℕ} where
+  pub seen-start : Seen m indices 0 (record { k = suc m; negative = true })
+  seen-start = let odd : (suc m + m) % 2 ≡ 1 = omega arith in
+      record { within = omega arith; here = λ l. absurd (omega arith); before = λ j l. absurd (omega arith); sign-is = rw odd refl }
 
-pub looking-start : (m : ℕ) (indices : List ℕ) → Looking m indices (suc m)
-looking-start m indices = let none : suc m - suc m ≡ 0 = omega arith in record { few = omega arith; seeking = rw none seeking-start }
+  module _ {i : ℕ} {a : ZeroRow} (now : Seen m indices i a) where
+    pub seen-zero : {x : ZeroRow} → i < suc m → getD indices i 0 ≡ 0 → IsLower a (record { k = i; negative = negative m i }) x
+        → Seen m indices (i + 1) x
+    seen-zero l zero lower = case-le (a .k) i
+        (λ le. rw (lower .first le) (record {
+          within = now .within;
+          here = now .here;
+          before = λ j _ lk. now .before j (omega arith) lk;
+          sign-is = now .sign-is;
+        }))
+        (λ lt. rw (lower .second lt) (record {
+          within = omega arith;
+          here = λ _. zero;
+          before = λ j _ lk. now .before j lk (omega arith);
+          sign-is = refl;
+        }))
 
--- k is the row that it has come to
-module _ {m left : ℕ} {indices : List ℕ} (now : Looking m indices left) (k : ℕ) (all : k + left ≡ suc m) where
-  come : Seeking (suc m) (λ i. getD indices i 0 ≡ 0) k
-  come = let here : suc m - left ≡ k = omega arith in rw here at (now .seeking)
+    pub seen-on : ¬ (getD indices i 0 ≡ 0) → Seen m indices (i + 1) a
+    seen-on not = record {
+      within = now .within;
+      here = now .here;
+      before = below-more _ i (now .before) (λ _. not);
+      sign-is = now .sign-is;
+    }
 
-  pub looking-on : 0 < left → ¬ (getD indices k 0 ≡ 0) → Looking m indices (left - 1)
-  looking-on more not =
-      let next : suc m - (left - 1) ≡ k + 1 = omega arith in
-      record { few = omega (arith, now .few); seeking = rw next (seeking-on come (omega arith) not) }
-
-  pub looking-found : getD indices k 0 ≡ 0 → ZeroFound m indices k (eqb (left % 2) 0)
-  looking-found zero = record { lowest = seeking-found come zero; sign-is = sign-by-rows m k left (omega arith) }
-
-  pub looking-end : left ≡ 0 → ZeroFound m indices k true
-  looking-end none = record {
-    lowest = seeking-end come (omega arith);
-    sign-is = sign-by-rows m k 0 (omega arith);
-  }
+    pub seen-all : suc m ≤ i → ZeroFound m indices (a .k) (a .negative)
+    seen-all all = record {
+      lowest = record { within = now .within; here = now .here; before = λ j l. now .before j (omega (arith, now .within)) l };
+      sign-is = now .sign-is;
+    }
 
 module _ {p reciprocal m w wide : ℕ} {r column next product spare indices : List ℕ}
     (asked : TakeAsked p reciprocal m w wide r column next product spare indices) where

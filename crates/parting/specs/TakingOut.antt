@@ -8,6 +8,7 @@ use lib.ListN.{length, getD, take}
 use Rattle.lists.specs.First.{First}
 use Rattle.lists.specs.Part.{part}
 use Rattle.parting.specs.Parting.{Parted}
+use Rattle.parting.specs.declared.taking.ZeroRow.{ZeroRow}
 use Rattle.parting.specs.Signed.{signedProduct, MultiplyAsked}
 
 -- "Of several zero rows the lowest is taken": k is the lowest row whose pivot index is 0, or `rows` where none is
@@ -17,6 +18,11 @@ LowestZero rows indices = First rows (λ i. getD indices i 0 ≡ 0)
 -- the sign of Figure 4 for row k of m + 1: rows are counted from 0 here, so that its exponent is k + m
 abbrev pub negative : (m k : ℕ) → Bool
 negative m k = eqb ((k + m) % 2) 1
+
+-- x is the lower one of two rows, with its sign
+pub record IsLower (a b x : ZeroRow) : Type 0 where
+  pub second : b .k < a .k → x ≡ b
+  pub first : a .k ≤ b .k → x ≡ a
 
 -- such a row of m + 1, with its sign
 pub record ZeroFound (m : ℕ) (indices : List ℕ) (k : ℕ) (sign : Bool) : Type 0 where

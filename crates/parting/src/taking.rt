@@ -1,39 +1,43 @@
 // A row is taken out.
 ghost use Prim.Native.Nat.{_<_};
 ghost use lib.ListN.{length};
-ghost use Rattle.parting.specs.TakingOut.{ZeroFound, TakeAsked, TakenOut};
+ghost use Rattle.parting.specs.TakingOut.{IsLower, ZeroFound, TakeAsked, TakenOut};
 use crate::column;
 use crate::product;
 use residues::Modulus;
 
-// The row that is taken out, and the sign of its entry.
+// A zero row, and the sign of its entry.
 struct ZeroRow {
     k: usize,
     negative: bool,
 }
 
-// The lowest of m + 1 rows that is zero, by its pivot index, or m + 1. The sign of Figure 4 alternates from row to row, and the
-// last row has +.
+// "Of several zero rows the lowest is taken."
+fn lower(a: ZeroRow, b: ZeroRow) -> ZeroRow
+    ensures { λ x. ⌜ IsLower a b x ⌝ }
+{
+    if b.k < a.k { b } else { a }
+}
+
+// The lowest of m + 1 rows that is zero, by its pivot index, or m + 1, with the sign of Figure 4.
 fn lowest_zero(index: &[usize], m: usize) -> ZeroRow
     requires { ⌜ m < length (now index) ⌝ }
     ensures { λ x. ⌜ ZeroFound m (now (index .entry)) (x .k) (x .negative) ⌝ }
 {
     let rows = m + 1;
-    let mut left = rows;
-    while 0 < left {
-        let k = rows - left;
-        if index[k] == 0 {
-            return ZeroRow {
-                k,
-                negative: left % 2 == 0,
-            };
-        }
-        left -= 1;
-    }
-    ZeroRow {
+    let mut lowest = ZeroRow {
         k: rows,
         negative: true,
+    };
+    let mut i = 0;
+    while i < rows {
+        if index[i] == 0 {
+            let negative = (i + m) % 2 == 1;
+            lowest = lower(lowest, ZeroRow { k: i, negative });
+        }
+        i += 1;
     }
+    lowest
 }
 
 // The lowest row that the steps have left zero is taken out: its entry in the parted column is a factor, and the last column of
