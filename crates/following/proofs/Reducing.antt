@@ -2,6 +2,7 @@
 use mathlib.Core.Path.{_≡_, refl, sym, ap, _∙_}
 use mathlib.Core.List.{List}
 use Prim.Native.Nat.{ℕ, suc, _+_, _-_, _*_, _≤_, _<_}
+use native.Mathlib.Nat as N
 use native.Mathlib.Omega.{arith}
 use lib.ListN.{length, getD, length-set}
 use Rattle.algebra.specs.Field.{Field}
@@ -26,7 +27,7 @@ use Rattle.reduction.specs.Pair.{Reducing}
 use Rattle.reduction.specs.Step.{factor, subtract, reduce-row}
 use Rattle.reduction.proofs.Pair.{pair-reducing, pair-same}
 use Rattle.choosing.specs.Pair.{NextAsked, IsNextOf}
-use Rattle.pivots.specs.Pivot.{valuesOf, Pivots}
+use Rattle.pivots.specs.Pivot.{valuesOf}
 use Rattle.choosing.specs.declared.pair.Next.the-variants.{Nothing, Rows}
 use Rattle.choosing.proofs.Next.{pivots-asked}
 use Rattle.stepping.proofs.Value.{value-held}
@@ -39,86 +40,22 @@ use Rattle.following.specs.Columns.{RowsHeld, Room, ReduceAsked, Columns
 abbrev reach : (m budget k : ℕ) (heights : List ℕ) → ℕ
 reach m budget k heights = getD heights k 0 + (budget - total (suc m) (λ i. getD heights i 0 - 1))
 
--- buffers of a stage
-module _ {p : ℕ} (P : Prime p) {m w wide budget : ℕ} (columns : 0 < m) {whole f : ℕ → Zp p} {r column : List ℕ}
-    (held : RowsHeld p P m w wide budget whole f r column) where
-  abbrev K : Field (Zp p)
-  K = zp-field p P
+-- the values of the rows
+pub agree : {p : ℕ} (P : Prime p) {m w wide budget : ℕ} {whole f : ℕ → Zp p} {r column : List ℕ} → 0 < m
+    → (held : RowsHeld p P m w wide budget whole f r column) (i : ℕ) → i < suc m → valuesOf m w r i ≡ values (zp-field p P) m w (held .T) i
+agree {p} P {m} {w} columns held i li = sym (value-held p P (suc m) m w (held .matrix) columns i li)
 
-  abbrev T : ℕ → Row (Zp p)
-  T = held .T
-
-  -- the values of the rows
-  pub agree : (i : ℕ) → i < suc m → valuesOf m w r i ≡ values K m w T i
-  agree i li = sym (value-held p P (suc m) m w (held .matrix) columns i li)
-
-  -- with the pivots of the rows
-  module _ {indices heights : List ℕ} (pivots : Pivots (suc m) m (valuesOf m w r) indices heights) where
-    height-now : (i : ℕ) → i < suc m → getD heights i 0 ≡ height m (value K m w (T i))
-    height-now = height-is p P (suc m) m w columns r indices heights T (held .matrix) pivots
-
-    sum-now : total (suc m) (λ i. getD heights i 0 - 1) ≡ degrees K w m T
-    sum-now = total-same (suc m) _ _ (λ i li. ap (λ (x : ℕ). x - 1) (height-now i li))
-
-    within-budget : total (suc m) (λ i. getD heights i 0 - 1) ≤ budget
-    within-budget = rw sum-now (held .stage .less)
-
-    -- rows l and k are to be reduced
-    module _ {l k : ℕ} (next : IsNextOf (suc m) m (valuesOf m w r) (Rows l k)) where
-      reducing : Reducing (suc m) m (values K m w T) l k
-      reducing = let (q, q-is) = pair-same (suc m) m _ _ agree (next .0) (l, k) (next .1) in pair-reducing q q-is
-
-      reach-is : reach m budget k heights ≡ height m (values K m w T k) + (budget - degrees K w m T)
-      reach-is = rw (sum-now, height-now k (reducing .k-fits)) refl
-
-      -- the places of the parted column in row k, and what is added to row l
-      cell-short : Short wide (reach m budget k heights) 1 (place 1 wide k) column
-      cell-short = record {
-        zero = λ j t lj from lt.
-            held .parted .at k j t (reducing .k-fits) lj lt
-            ∙ ap (λ (x : Zp p). x .val) (stage-short K w (wide - 1) whole (held .stage) l k reducing t (omega (arith, reach-is)))
-            ∙ field-zero p P;
-      }
-
-      cell-room : 0 < wide → getD heights l 0 - getD heights k 0 + reach m budget k heights ≤ wide
-      cell-room places = omega (
-        arith,
-        stage-room K w (wide - 1) whole (held .stage) l k reducing,
-        reach-is,
-        height-now l (reducing .l-fits),
-        height-now k (reducing .k-fits),
-      )
-
-      -- after the step
-      module _ {r′ column′ indices′ heights′ : List ℕ} (d : StepFollowed p m w wide l k r column indices heights r′ column′ indices′ heights′) where
-        next-stage : Stage K w (wide - 1) whole budget m (reduce-row K m w l k T) f
-        next-stage = stage-step K w (wide - 1) whole (held .stage) l k reducing
-
-        matrix-on : Held (by-rows (suc m) m w) p r′ (reduce-row K m w l k T)
-        matrix-on = step-held p P (suc m) m w columns r indices heights T (held .matrix) pivots l k reducing (d .factor) (d .r-move)
-
-        rows-on : 0 < wide → RowsHeld p P m w wide budget whole f r′ column′
-        rows-on places = record {
-          T = reduce-row K m w l k T;
-          matrix = matrix-on;
-          parted = held-matrix-same (by-rows (suc m) 1 wide) p same
-              (step-followed p P (suc m) m w columns r indices heights T (held .matrix) pivots l k reducing (d .factor) 1 wide (held .parted)
-              (d .column-move)
-              (λ i li j lj t past. ap (λ (x : ℕ → Zp p). x t) (same i j li lj) ∙ stage-column K w (wide - 1) whole next-stage i li t (omega arith)));
-          stage = next-stage;
-        }
-          where
-            same : Same (suc m) 1 (subtract (K .ring) l k (factor K m w (T l) (T k)) (λ s _. T s m)) (λ s _. reduce-row K m w l k T s m)
-            same i j li lj = addrow-column (series (K .ring)) T l k (series (K .ring) .neg (factor K m w (T l) (T k))) m i j
-
--- the room lent keeps its length
-pub room-kept : {m w wide : ℕ} {spare spare′ : List ℕ} → Room m w wide spare → length spare′ ≡ length spare → Room m w wide spare′
-room-kept room same = record {
-  columns-most = room .columns-most;
+-- the room lent keeps its lengths, and fewer columns have room where more had
+pub room-kept : {m m′ w wide : ℕ} {spare indices heights spare′ indices′ heights′ : List ℕ} → m′ ≤ m → Room m w wide spare indices heights
+    → length spare′ ≡ length spare → length indices′ ≡ length indices → length heights′ ≡ length heights → Room m′ w wide spare′ indices′ heights′
+room-kept {w = w} le room x y z = record {
+  columns-most = omega (arith, room .columns-most);
   places = room .places;
   places-most = room .places-most;
-  row-room = omega (arith, room .row-room);
+  row-room = omega (arith, room .row-room, N.mul-le-mul-right w le);
   cell-room = omega (arith, room .cell-room);
+  index-room = omega (arith, room .index-room);
+  degree-room = omega (arith, room .degree-room);
 }
 
 -- where the loop stands: what was asked of the first buffers is true of these, and of whatever stage those were, these are
@@ -148,16 +85,80 @@ module _ {p reciprocal m w wide budget : ℕ} {r₀ column₀ spare₀ indices�
     (now : Going p reciprocal m w wide budget r₀ column₀ spare₀ indices₀ heights₀ r column spare indices heights) where
   open Going now using (asked)
 
+  -- whatever stage the buffers are of
+  module _ (P : Prime p) {whole f : ℕ → Zp p} (held : RowsHeld p P m w wide budget whole f r column) where
+    abbrev K : Field (Zp p)
+    K = zp-field p P
+
+    abbrev T : ℕ → Row (Zp p)
+    T = held .T
+
+    height-now : (i : ℕ) → i < suc m → getD heights i 0 ≡ height m (value K m w (T i))
+    height-now = height-is p P (suc m) m w (asked .columns) r indices heights T (held .matrix) (asked .pivots)
+
+    sum-now : total (suc m) (λ i. getD heights i 0 - 1) ≡ degrees K w m T
+    sum-now = total-same (suc m) _ _ (λ i li. ap (λ (x : ℕ). x - 1) (height-now i li))
+
+    -- rows l and k are to be reduced
+    module _ {l k : ℕ} (next : IsNextOf (suc m) m (valuesOf m w r) (Rows l k)) where
+      reducing : Reducing (suc m) m (values K m w T) l k
+      reducing = let (q, q-is) = pair-same (suc m) m _ _ (agree P (asked .columns) held) (next .0) (l, k) (next .1) in pair-reducing q q-is
+
+      reach-is : reach m budget k heights ≡ height m (values K m w T k) + (budget - degrees K w m T)
+      reach-is = rw (sum-now, height-now k (reducing .k-fits)) refl
+
+      -- the places of the parted column in row k, and what is added to row l
+      cell-short : Short wide (reach m budget k heights) 1 (place 1 wide k) column
+      cell-short = record {
+        zero = λ j t lj from lt.
+            held .parted .at k j t (reducing .k-fits) lj lt
+            ∙ ap (λ (x : Zp p). x .val) (stage-short K w (wide - 1) whole (held .stage) l k reducing t (omega (arith, reach-is)))
+            ∙ field-zero p P;
+      }
+
+      cell-room : getD heights l 0 - getD heights k 0 + reach m budget k heights ≤ wide
+      cell-room = omega (
+        arith,
+        asked .room .places,
+        stage-room K w (wide - 1) whole (held .stage) l k reducing,
+        reach-is,
+        height-now l (reducing .l-fits),
+        height-now k (reducing .k-fits),
+      )
+
+      -- after the step
+      module _ {r′ column′ indices′ heights′ : List ℕ} (d : StepFollowed p m w wide l k r column indices heights r′ column′ indices′ heights′) where
+        next-stage : Stage K w (wide - 1) whole budget m (reduce-row K m w l k T) f
+        next-stage = stage-step K w (wide - 1) whole (held .stage) l k reducing
+
+        matrix-on : Held (by-rows (suc m) m w) p r′ (reduce-row K m w l k T)
+        matrix-on = step-held p P (suc m) m w (asked .columns) r indices heights T (held .matrix) (asked .pivots) l k reducing (d .factor) (d .r-move)
+
+        rows-on : RowsHeld p P m w wide budget whole f r′ column′
+        rows-on = record {
+          T = reduce-row K m w l k T;
+          matrix = matrix-on;
+          parted = held-matrix-same (by-rows (suc m) 1 wide) p same
+              (step-followed p P (suc m) m w (asked .columns) r indices heights T (held .matrix) (asked .pivots) l k reducing (d .factor) 1 wide
+              (held .parted) (d .column-move)
+              (λ i li j lj t past. ap (λ (x : ℕ → Zp p). x t) (same i j li lj) ∙ stage-column K w (wide - 1) whole next-stage i li t
+              (omega (arith, asked .room .places))));
+          stage = next-stage;
+        }
+          where
+            same : Same (suc m) 1 (subtract (K .ring) l k (factor K m w (T l) (T k)) (λ s _. T s m)) (λ s _. reduce-row K m w l k T s m)
+            same i j li lj = addrow-column (series (K .ring)) T l k (series (K .ring) .neg (factor K m w (T l) (T k))) m i j
+
   pub next-asked : NextAsked (suc m) indices heights
   next-asked = pivots-asked (suc m) m (valuesOf m w r) indices heights (asked .pivots) (asked .columns) (omega (arith, asked .room .columns-most))
-      (asked .index-room) (asked .degree-room)
+      (asked .room .index-room) (asked .room .degree-room)
 
   -- the pivot degrees are within the budget together
   pub within : total (suc m) (λ i. getD heights i 0 - 1) ≤ budget
-  within = within-budget (asked .prime) (asked .columns) (asked .held) (asked .pivots)
+  within = rw (sum-now (asked .prime) (asked .held)) (asked .held .stage .less)
 
   pub sum-asked : SumAsked (suc m) heights
-  sum-asked = record { room = asked .degree-room; fits = omega (arith, within, asked .held .stage .within, asked .room .places-most) }
+  sum-asked = record { room = asked .room .degree-room; fits = omega (arith, within, asked .held .stage .within, asked .room .places-most) }
 
   pub going-stop : {left : ℕ} → left ≡ total (suc m) (λ i. getD heights i 0 - 1) → IsNextOf (suc m) m (valuesOf m w r) Nothing
       → ColumnsReduced p m w wide budget left r₀ column₀ r column indices heights
@@ -173,26 +174,23 @@ module _ {p reciprocal m w wide budget : ℕ} {r₀ column₀ spare₀ indices�
     listed = pair-reducing (next .0) (next .1)
 
     pub k-room : (k < length heights) × (k < 8)
-    k-room = (omega (arith, listed .k-fits, asked .degree-room), omega (arith, listed .k-fits, asked .room .columns-most))
-
-    room : getD heights l 0 - getD heights k 0 + reach m budget k heights ≤ wide
-    room = cell-room (asked .prime) (asked .columns) (asked .held) (asked .pivots) next (asked .room .places)
+    k-room = (omega (arith, listed .k-fits, asked .room .degree-room), omega (arith, listed .k-fits, asked .room .columns-most))
 
     pub reach-fits : reach m budget k heights ≤ 512
-    reach-fits = omega (arith, room, asked .room .places-most)
+    reach-fits = omega (arith, cell-room (asked .prime) (asked .held) next, asked .room .places-most)
 
     pub step-asked : StepAsked p reciprocal m w wide l k (reach m budget k heights) r column spare indices heights
     step-asked = record {
       plan = plan-asked (suc m) m w (asked .columns) r (asked .held .matrix .size) indices heights (asked .pivots) (asked .ready) (asked .prime)
-          (held-coefficients (by-rows (suc m) m w) p (asked .held .matrix)) (asked .index-room) (asked .degree-room) listed;
+          (held-coefficients (by-rows (suc m) m w) p (asked .held .matrix)) (asked .room .index-room) (asked .room .degree-room) listed;
       columns = asked .columns;
       l-short = list-short (suc m) m w (asked .columns) r (asked .held .matrix .size) indices heights (asked .pivots) l (listed .l-fits);
       k-short = list-short (suc m) m w (asked .columns) r (asked .held .matrix .size) indices heights (asked .pivots) k (listed .k-fits);
       l-cell = omega (arith, asked .held .parted .size, line-end l (suc m) (1 * wide) (listed .l-fits));
       k-cell = omega (arith, asked .held .parted .size, line-end k (suc m) (1 * wide) (listed .k-fits));
       column-residues = held-coefficients (by-rows (suc m) 1 wide) p (asked .held .parted);
-      column-short = cell-short (asked .prime) (asked .columns) (asked .held) (asked .pivots) next;
-      column-room = room;
+      column-short = cell-short (asked .prime) (asked .held) next;
+      column-room = cell-room (asked .prime) (asked .held) next;
       row-room = asked .room .row-room;
       cell-room = omega (arith, asked .room .cell-room);
     }
@@ -201,8 +199,7 @@ module _ {p reciprocal m w wide budget : ℕ} {r₀ column₀ spare₀ indices�
     module _ {r′ column′ indices′ heights′ : List ℕ} (d : StepFollowed p m w wide l k r column indices heights r′ column′ indices′ heights′) where
       pub falls : total (suc m) (valuesOf m w r′) < total (suc m) (valuesOf m w r)
       falls = step-falls p (asked .prime) (suc m) m w (asked .columns) r indices heights (asked .held .T) (asked .held .matrix) (asked .pivots) l k
-          (reducing (asked .prime) (asked .columns) (asked .held) (asked .pivots) next)
-          (matrix-on (asked .prime) (asked .columns) (asked .held) (asked .pivots) next d)
+          (reducing (asked .prime) (asked .held) next) (matrix-on (asked .prime) (asked .held) next d)
 
       pub going-on : {spare′ : List ℕ} → length spare′ ≡ length spare
           → Going p reciprocal m w wide budget r₀ column₀ spare₀ indices₀ heights₀ r′ column′ spare′ indices′ heights′
@@ -211,16 +208,14 @@ module _ {p reciprocal m w wide budget : ℕ} {r₀ column₀ spare₀ indices�
           ready = asked .ready;
           prime = asked .prime;
           columns = asked .columns;
-          room = room-kept (asked .room) same;
-          index-room = omega (arith, asked .index-room, index-kept);
-          degree-room = omega (arith, asked .degree-room, degree-kept);
+          room = room-kept (omega arith) (asked .room) same index-kept degree-kept;
           pivots = pivots-after p (suc m) m w _ _ l k r r′ (asked .held .matrix .size) (listed .l-fits) (d .r-move) indices heights indices′ heights′
-              (asked .index-room) (asked .degree-room) (asked .pivots) (d .renewed);
+              (asked .room .index-room) (asked .room .degree-room) (asked .pivots) (d .renewed);
           whole = asked .whole;
           f = asked .f;
-          held = on (asked .prime) _ _ (asked .held);
+          held = rows-on (asked .prime) (asked .held) next d;
         };
-        by = λ P whole f h. on P whole f (now .by P whole f h);
+        by = λ P whole f h. rows-on P (now .by P whole f h) next d;
         r-same = d .r-move .size ∙ now .r-same;
         column-same = d .column-move .size ∙ now .column-same;
         spare-same = same ∙ now .spare-same;
@@ -228,9 +223,6 @@ module _ {p reciprocal m w wide budget : ℕ} {r₀ column₀ spare₀ indices�
         degree-same = degree-kept ∙ now .degree-same;
       }
         where
-          on : (P : Prime p) (whole f : ℕ → Zp p) → RowsHeld p P m w wide budget whole f r column → RowsHeld p P m w wide budget whole f r′ column′
-          on P whole f h = rows-on P (asked .columns) h (asked .pivots) next d (asked .room .places)
-
           index-kept : length indices′ ≡ length indices
           index-kept = ap length (d .renewed .indices-are) ∙ length-set indices l _
 

@@ -23,22 +23,22 @@ pub record RowsHeld (p : ℕ) (P : Prime p) (m w wide budget : ℕ) (whole f : �
   pub parted : Held (by-rows (suc m) 1 wide) p column (λ s _. T s m)
   pub stage : Stage (zp-field p P) w (wide - 1) whole budget m T f
 
--- at most eight rows and 512 places a cell, and room for a row of m cells and for a wide cell
-pub record Room (m w wide : ℕ) (spare : List ℕ) : Type 0 where
+-- at most eight rows and 512 places a cell, and room for a row of m cells, for a wide cell, and for the pivots of the rows
+pub record Room (m w wide : ℕ) (spare indices degrees : List ℕ) : Type 0 where
   pub columns-most : m < 8
   pub places : 0 < wide
   pub places-most : wide ≤ 512
   pub row-room : m * w ≤ length spare
   pub cell-room : wide ≤ length spare
+  pub index-room : suc m ≤ length indices
+  pub degree-room : suc m ≤ length degrees
 
 -- such buffers with the pivots of the rows
 pub record ReduceAsked (p reciprocal m w wide budget : ℕ) (r column spare indices degrees : List ℕ) : Type 0 where
   pub ready : Ready p reciprocal
   pub prime : Prime p
   pub columns : 0 < m
-  pub room : Room m w wide spare
-  pub index-room : suc m ≤ length indices
-  pub degree-room : suc m ≤ length degrees
+  pub room : Room m w wide spare indices degrees
   pub pivots : Pivots (suc m) m (valuesOf m w r) indices degrees
   pub whole : ℕ → Zp p
   pub f : ℕ → Zp p

@@ -3,13 +3,13 @@ use mathlib.Core.Path.{_≡_, refl, sym, ap, subst, _∙_}
 use mathlib.Core.Bool.{true}
 use mathlib.Core.List.{List, [], _∷_}
 use Prim.Native.Nat.{ℕ, _+_, _*_}
-use native.Mathlib.Omega.{arith}
 use lib.ListN.{length}
-use Rattle.algebra.specs.Prime.{Prime}
 use Rattle.residues.specs.Modulus.{Ready}
+use Rattle.buffers.specs.Bounds.{Bounds}
 use Rattle.refusals.specs.Answering.{Told}
 use Rattle.refusals.specs.Refused.{determinantSizes, refusalTable}
 use Rattle.refusals.proofs.Answering.{answer-done, InOrder, in-order, sized}
+use Rattle.checking.proofs.Verdicts.{in-bounds}
 use Rattle.stages.specs.Determinant.{DeterminantAsked, IsDeterminant}
 use Rattle.matrix.specs.Determinant.{DeterminantAnswered}
 use Rattle.matrix.specs.declared.determining.DeterminantAnswer.the-variants.{Done}
@@ -24,13 +24,13 @@ module _ {p n m d : ℕ} {a r : List ℕ} (passed : DeterminantPassed p n m d a 
 
   pub determinant-asked : {q reciprocal : ℕ} → q ≡ p → Ready q reciprocal → DeterminantAsked q reciprocal n d a r
   determinant-asked q-is ready = record {
-    ready = ready;
-    prime = subst Prime (sym q-is) (determinant-order .numbers .modulus .prime);
-    rows = omega (arith, determinant-order .numbers .shape .rows);
-    rows-most = determinant-order .numbers .shape .rows-most;
-    degree-most = determinant-order .numbers .degree;
-    size = sized determinant-order 0 ∙ ap (λ (x : ℕ). n * (x * (d + 1))) (sym (determinant-order .square));
-    residues = rw q-is (determinant-order .residues);
+    checked = record {
+      ready = ready;
+      prime = rw q-is (determinant-order .numbers .modulus .prime);
+      bounds = subst (λ (x : ℕ). Bounds n x (d + 1)) (sym (determinant-order .square)) (in-bounds (determinant-order .numbers));
+      size = sized determinant-order 0 ∙ ap (λ (x : ℕ). n * (x * (d + 1))) (sym (determinant-order .square));
+      residues = rw q-is (determinant-order .residues);
+    };
     room = sized determinant-order 1;
   }
 

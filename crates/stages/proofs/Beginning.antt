@@ -1,10 +1,9 @@
 -- The first stage of the determinant of a matrix.
-use mathlib.Core.Path.{_≡_, sym, ap, subst}
+use mathlib.Core.Path.{_≡_, ap}
 use mathlib.Core.List.{List}
 use Prim.Native.Nat.{ℕ, suc, _-_, _*_, _≤_, _<_}
 use native.Mathlib.Nat as N
 use native.Mathlib.Omega.{arith}
-use lib.ListN.{take}
 use lib.Seq.{take-all}
 use Rattle.algebra.specs.Field.{Field}
 use Rattle.algebra.specs.Matrix.{Same}
@@ -40,7 +39,7 @@ module _ {p : ℕ} (P : Prime p) {n w wide : ℕ} (rows : 0 < n) (places : 0 < w
   as-it-is : (m : ℕ) → Same n m (λ s. A (skip n s)) A
   as-it-is m s j ls lj = ap (λ (x : ℕ). A x j) (skip-low n s ls)
 
-  one-less : n ≡ suc (n - 1)
+  one-less : suc (n - 1) ≡ n
   one-less = omega arith
 
   holds-one : Holds p product (series (K .ring) .𝟙)
@@ -54,12 +53,10 @@ module _ {p : ℕ} (P : Prime p) {n w wide : ℕ} (rows : 0 < n) (places : 0 < w
       f = series (K .ring) .𝟙;
       rows = record {
         T = A;
-        matrix = subst (λ (x : ℕ). Held (by-rows x (n - 1) w) p (take (x * ((n - 1) * w)) r) A) one-less
-            (held-matrix-same (by-rows n (n - 1) w) p (as-it-is (n - 1)) (held-next input all (laid-out .parted)));
-        parted = subst (λ (x : ℕ). Held (by-rows x 1 wide) p (take (x * wide) column) (λ s _. A s (n - 1))) one-less
-            (held-matrix-same (by-rows n 1 wide) p (λ s j ls lj. as-it-is n s (n - 1) ls (omega arith))
+        matrix = rw one-less (held-matrix-same (by-rows n (n - 1) w) p (as-it-is (n - 1)) (held-next input all (laid-out .parted)));
+        parted = rw one-less (held-matrix-same (by-rows n 1 wide) p (λ s j ls lj. as-it-is n s (n - 1) ls (omega arith))
             (held-column input all (laid-out .parted) rows widened));
-        stage = stage-start K w (wide - 1) n (n - 1) (w - 1) (sym one-less) A
+        stage = stage-start K w (wide - 1) n (n - 1) (w - 1) one-less A
             (λ s ls c lc. below-more (K .ring) (A s c) _ _ (omega arith) (held-bounded (by-rows n n w) p P input s ls c lc))
             (omega arith) (omega arith);
       };

@@ -1,5 +1,5 @@
 -- One stage after the other, in the front of the buffers.
-use mathlib.Core.Path.{_≡_, refl, sym, ap, subst, _∙_}
+use mathlib.Core.Path.{_≡_, refl, sym, ap, _∙_}
 use mathlib.Core.Bool.{false}
 use mathlib.Core.List.{List, _++_}
 use Prim.Native.Nat.{ℕ, suc, _+_, _-_, _*_, _≤_, _<_}
@@ -13,46 +13,20 @@ use Rattle.algebra.specs.Prime.{Prime}
 use Rattle.algebra.specs.Residue.{Zp}
 use Rattle.algebra.proofs.PrimeField.{zp-field}
 use Rattle.algebra.proofs.Series.{series}
-use Rattle.lattice.specs.Row.{Row}
 use Rattle.lattice.proofs.Coefficients.{below-more}
 use Rattle.lists.proofs.Change.{getD-past}
 use Rattle.lists.proofs.Grid.{one-line}
 use Rattle.determinant.proofs.Stage.{stage-last}
-use Rattle.residues.specs.Modulus.{Ready}
 use Rattle.poly.specs.Reading.{Holds}
 use Rattle.buffers.specs.Held.{Held}
 use Rattle.buffers.proofs.Place.{by-rows}
+use Rattle.following.proofs.Reducing.{room-kept}
 use Rattle.parting.specs.Signed.{signedProduct, MultiplyAsked}
 use Rattle.parting.proofs.Parting.{column-cell}
 use Rattle.parting.proofs.Signed.{multiply-asked, holds-signed}
 use Rattle.stages.specs.Stage.{StageAsked, Staged}
 use Rattle.stages.specs.Run.{FrontHeld, Rooms, RunAsked, Ran}
 use Rattle.stages.proofs.Turning.{smaller}
-
--- the buffers keep their lengths, and a later stage has room where an earlier one had
-rooms-on : {m m′ w wide : ℕ} {r column next spare indices heights r′ column′ next′ spare′ indices′ heights′ : List ℕ} → m′ ≤ m
-    → Rooms m w wide r column next spare indices heights → length r′ ≡ length r → length column′ ≡ length column → length next′ ≡ length next
-    → length spare′ ≡ length spare → length indices′ ≡ length indices → length heights′ ≡ length heights
-    → Rooms m′ w wide r′ column′ next′ spare′ indices′ heights′
-rooms-on {m} {m′} {w} {wide} le rooms r-same column-same next-same spare-same index-same degree-same =
-    let more : suc m′ ≤ suc m = omega arith in
-    let lines : suc m′ * (m′ * w) ≤ suc m * (m * w) = N.mul-le-mul more (N.mul-le-mul-right w le) in
-    let cells : suc m′ * wide ≤ suc m * wide = N.mul-le-mul-right wide more in
-    record {
-      room = record {
-        columns-most = omega (arith, rooms .room .columns-most);
-        places = rooms .room .places;
-        places-most = rooms .room .places-most;
-        row-room = omega (arith, rooms .room .row-room, N.mul-le-mul-right w le);
-        cell-room = omega (arith, rooms .room .cell-room);
-      };
-      widened = rooms .widened;
-      r-room = omega (arith, rooms .r-room);
-      column-room = omega (arith, rooms .column-room);
-      next-room = omega (arith, rooms .next-room);
-      index-room = omega (arith, rooms .index-room);
-      degree-room = omega (arith, rooms .degree-room);
-    }
 
 -- a polynomial by itself
 held-single : {p w : ℕ} {l : List ℕ} {f : ℕ → Zp p} → length l ≡ w → Holds p l f → Held (by-rows 1 1 w) p l (λ _ _. f)
@@ -62,36 +36,6 @@ held-single {w = w} {l = l} size h = record {
       rw (first, only) (ap (λ (x : ℕ). getD l x 0) (omega arith) ∙ h .at t);
   beyond = λ i j t li lj past. sym (h .at t) ∙ getD-past l t (omega (arith, size));
 }
-
--- the stage of no columns
-module _ {p : ℕ} (P : Prime p) {w wide budget : ℕ} (places : 0 < wide) {whole : ℕ → Zp p} {r column product : List ℕ} (fits : wide ≤ length column)
-    (last-one : FrontHeld p P 0 w wide budget whole r column product) where
-  open FrontHeld last-one using (front as held)
-
-  abbrev K : Field (Zp p)
-  K = zp-field p P
-
-  abbrev T : ℕ → Row (Zp p)
-  T = held .rows .T
-
-  entry : Holds p (take wide column) (T 0 0)
-  entry =
-      let one : suc 0 * wide ≡ wide = omega arith in
-      rw (N.zero-mul, one, take-all wide (take wide column) (omega (arith, length-take-le wide column fits)))
-      at (column-cell (held .rows .parted) 0 (omega arith))
-
-  last : (series (K .ring) .mul (held .f) (T 0 0) ≡ whole) × Below (K .ring) (series (K .ring) .mul (held .f) (T 0 0)) (suc (wide - 1))
-  last = stage-last K w (wide - 1) whole (held .rows .stage) refl
-
-  last-asked : {reciprocal : ℕ} {spare : List ℕ} → Ready p reciprocal → wide ≤ 512 → wide ≤ length spare
-      → MultiplyAsked p reciprocal product (take wide column) spare
-  last-asked ready few room = multiply-asked p P (held .so-far) entry ready (below-more (K .ring) _ _ _ (omega (arith, held .size)) (last .1))
-      (omega (arith, held .size)) (omega (arith, held .size))
-
-  last-held : {reciprocal : ℕ} {spare product′ : List ℕ} → MultiplyAsked p reciprocal product (take wide column) spare
-      → product′ ≡ signedProduct p false product (take wide column) → length product′ ≡ length product
-      → Held (by-rows 1 1 wide) p product′ (λ _ _. whole)
-  last-held asked made same = held-single (same ∙ held .size) (rw (made, ← last .0) (holds-signed p P (held .so-far) entry (asked .product) false))
 
 -- the first budget is within a wide cell
 pub budget-fits : {p reciprocal n w wide : ℕ} {r column next product spare indices heights : List ℕ}
@@ -135,9 +79,19 @@ module _ {p reciprocal n w wide : ℕ} {r₀ column₀ next₀ product₀ spare�
   where
     open Staging now using (asked)
 
+    -- the buffers keep their lengths, and a later stage has room where an earlier one had
     rooms : Rooms m w wide r column next spare indices heights
-    rooms = rooms-on (now .reached) (asked .rooms) (now .r-same) (now .column-same) (now .next-same) (now .spare-same) (now .index-same)
-        (now .degree-same)
+    rooms =
+        let more : suc m ≤ suc (n - 1) = omega (arith, now .reached) in
+        let lines : suc m * (m * w) ≤ suc (n - 1) * ((n - 1) * w) = N.mul-le-mul more (N.mul-le-mul-right w (now .reached)) in
+        let cells : suc m * wide ≤ suc (n - 1) * wide = N.mul-le-mul-right wide more in
+        record {
+          room = room-kept (now .reached) (asked .rooms .room) (now .spare-same) (now .index-same) (now .degree-same);
+          widened = asked .rooms .widened;
+          r-room = omega (arith, asked .rooms .r-room, now .r-same);
+          column-room = omega (arith, asked .rooms .column-room, now .column-same);
+          next-room = omega (arith, asked .rooms .next-room, now .next-same);
+        }
 
     here : FrontHeld p (asked .prime) m w wide budget (asked .whole) r column product
     here = now .by (asked .prime) (asked .whole) (asked .held)
@@ -161,8 +115,6 @@ module _ {p reciprocal n w wide : ℕ} {r₀ column₀ next₀ product₀ spare�
       prime = asked .prime;
       columns = columns;
       room = rooms .room;
-      index-room = rooms .index-room;
-      degree-room = rooms .degree-room;
       widened = rooms .widened;
       next-size = length-take-le _ next (fits .2);
       whole = asked .whole;
@@ -204,17 +156,41 @@ module _ {p reciprocal n w wide : ℕ} {r₀ column₀ next₀ product₀ spare�
 
     -- no column is left beside the parted one
     module _ (none : m ≡ 0) where
-      at-last : (P : Prime p) (whole : ℕ → Zp p) → FrontHeld p P m w wide budget whole r column product
-          → FrontHeld p P 0 w wide budget whole r column product
-      at-last P whole = subst (λ (x : ℕ). FrontHeld p P x w wide budget whole r column product) none
-
       pub cell-fits : wide ≤ length column
       cell-fits = omega (arith, rooms .column-room, one-line (suc m) wide (omega arith))
 
+      -- its only entry is the last factor
+      module _ (P : Prime p) {whole : ℕ → Zp p} (last-one : FrontHeld p P m w wide budget whole r column product) where
+        open FrontHeld last-one using (front as held)
+
+        abbrev K : Field (Zp p)
+        K = zp-field p P
+
+        abbrev factor : ℕ → Zp p
+        factor = held .rows .T 0 m
+
+        entry : Holds p (take wide column) factor
+        entry =
+            let one : suc m * wide ≡ wide = rw none (omega arith) in
+            rw (N.zero-mul, one, take-all wide (take wide column) (omega (arith, length-take-le wide column cell-fits)))
+            at (column-cell (held .rows .parted) 0 (omega arith))
+
+        last : (series (K .ring) .mul (held .f) factor ≡ whole) × Below (K .ring) (series (K .ring) .mul (held .f) factor) (suc (wide - 1))
+        last = stage-last K w (wide - 1) whole (held .rows .stage) none
+
+        last-asked : MultiplyAsked p reciprocal product (take wide column) spare
+        last-asked = multiply-asked p P (held .so-far) entry (asked .ready)
+            (below-more (K .ring) _ _ _ (omega (arith, held .size, rooms .room .places)) (last .1))
+            (omega (arith, held .size, rooms .room .places-most)) (omega (arith, held .size, rooms .room .cell-room))
+
+        last-held : {product′ : List ℕ} → product′ ≡ signedProduct p false product (take wide column) → length product′ ≡ length product
+            → Held (by-rows 1 1 wide) p product′ (λ _ _. whole)
+        last-held made same = held-single (same ∙ held .size)
+            (rw (made, ← last .0) (holds-signed p P (held .so-far) entry (last-asked .product) false))
+
       pub end-asked : MultiplyAsked p reciprocal product (take wide column) spare
-      end-asked = last-asked (asked .prime) (rooms .room .places) cell-fits (at-last _ _ here) (asked .ready) (rooms .room .places-most)
-          (rooms .room .cell-room)
+      end-asked = last-asked (asked .prime) here
 
       pub ran : {product′ : List ℕ} → product′ ≡ signedProduct p false product (take wide column) → length product′ ≡ length product
           → Ran p n w wide r₀ column₀ product₀ product′
-      ran made same = record { by = λ P whole h. last-held P (rooms .room .places) cell-fits (at-last P whole (now .by P whole h)) end-asked made same }
+      ran made same = record { by = λ P whole h. last-held P (now .by P whole h) made same }

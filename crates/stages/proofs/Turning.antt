@@ -1,5 +1,5 @@
 -- The end of a stage: a row is taken out, and the next stage begins.
-use mathlib.Core.Path.{_≡_, refl, sym, ap, subst, _∙_}
+use mathlib.Core.Path.{_≡_, refl, sym, ap, _∙_}
 use mathlib.Core.List.{List, _++_}
 use Prim.Native.Nat.{ℕ, suc, _+_, _-_, _*_, _%_, _≤_, _<_}
 use native.Mathlib.Nat as N
@@ -18,24 +18,18 @@ use Rattle.algebra.proofs.Series.{series}
 use Rattle.lattice.specs.Row.{Row}
 use Rattle.lattice.proofs.Coefficients.{below-more}
 use Rattle.lists.specs.Part.{part}
-use Rattle.lists.specs.Skip.{skip}
-use Rattle.lists.specs.Total.{total}
 use Rattle.lists.proofs.Skip.{skip-fits}
 use Rattle.lists.proofs.Total.{total-same}
 use Rattle.determinant.specs.Determinant.{without, sign-at, with-entry}
 use Rattle.determinant.proofs.Rows.{zero-row}
 use Rattle.determinant.proofs.Sign.{sign-parity}
-use Rattle.determinant.proofs.Stage.{Stage, degrees, stage-product, stage-turn}
-use Rattle.residues.specs.Modulus.{Ready}
+use Rattle.determinant.proofs.Stage.{degrees, stage-product, stage-turn}
 use Rattle.poly.specs.Reading.{Holds}
-use Rattle.buffers.specs.Held.{Held}
-use Rattle.buffers.proofs.Place.{by-rows}
 use Rattle.reduction.specs.Pivot.{values, index, height}
-use Rattle.reduction.specs.Pair.{NoPair}
 use Rattle.reduction.proofs.Index.{index-some}
 use Rattle.reduction.proofs.Pair.{no-pair-same}
-use Rattle.pivots.specs.Pivot.{valuesOf, degreesOf, Pivots}
-use Rattle.following.specs.Columns.{Room, ReduceAsked, ColumnsReduced}
+use Rattle.pivots.specs.Pivot.{valuesOf, Pivots}
+use Rattle.following.specs.Columns.{ReduceAsked, ColumnsReduced}
 use Rattle.following.proofs.Reducing.{agree, room-kept}
 use Rattle.parting.specs.Parting.{Parted}
 use Rattle.parting.specs.Signed.{signed, signedProduct, MultiplyAsked}
@@ -54,73 +48,7 @@ sign-is R j x = case-le 1 (j % 2)
     (λ odd. let e : j % 2 ≡ 1 = omega arith in rw (sign-parity R j, e) (sym (neg-mul R (R .𝟙) x ∙ ap (R .neg) (one-mul R x))))
     (λ even. let e : j % 2 ≡ 0 = omega arith in rw (sign-parity R j, e) (sym (one-mul R x)))
 
--- buffers of a stage to whose rows no step applies, of which row k is the lowest zero one
-module _ {p : ℕ} (P : Prime p) {m w wide budget : ℕ} (columns : 0 < m) {whole : ℕ → Zp p} {r column product : List ℕ}
-    (held : StageHeld p P m w wide budget whole r column product) (indices : List ℕ)
-    (indices-are : (i : ℕ) → i < suc m → getD indices i 0 ≡ index m (valuesOf m w r i)) (none : NoPair (suc m) m (valuesOf m w r))
-    {k : ℕ} (lowest : LowestZero (suc m) indices k) where
-  abbrev K : Field (Zp p)
-  K = zp-field p P
-
-  abbrev T : ℕ → Row (Zp p)
-  T = held .rows .T
-
-  indexed-by : (i : ℕ) → i < suc m → getD indices i 0 ≡ index m (values K m w T i)
-  indexed-by i li = indices-are i li ∙ ap (index m) (agree P columns (held .rows) i li)
-
-  pub row-fits : k < suc m
-  unfolding index
-  row-fits =
-      let x = zero-row K m w T (held .rows .stage .bounded) (no-pair-same (suc m) m _ _ (agree P columns (held .rows)) none) in
-      case-le k (x .at) (λ before. omega (arith, x .fits))
-      (λ past. absurd (lowest .before (x .at) past (indexed-by (x .at) (x .fits) ∙ ap (index m) (x .holds))))
-
-  row-none : values K m w T k ≡ 0
-  row-none = case-le 1 (values K m w T k)
-      (λ some. absurd (omega (arith, index-some m (values K m w T k) some, indexed-by k row-fits, lowest .here row-fits)))
-      (λ zero. omega arith)
-
-  -- its entry in the parted column
-  entry : Holds p (part (k * wide) wide column) (T k m)
-  entry = column-cell (held .rows .parted) k row-fits
-
-  pub factor-asked : {reciprocal : ℕ} {spare : List ℕ} → Ready p reciprocal → Room m w wide spare
-      → MultiplyAsked p reciprocal product (part (k * wide) wide column) spare
-  factor-asked ready room = multiply-asked p P (held .so-far) entry ready
-      (below-more (K .ring) _ _ _ (omega (arith, held .size, room .places))
-      (stage-product K w (wide - 1) whole (held .rows .stage) k row-fits row-none))
-      (omega (arith, held .size, room .places-most)) (omega (arith, held .size, room .cell-room))
-
-  left : (s : ℕ) → s < m → skip k s < suc m
-  left s ls = skip-fits m k s ls
-
-  -- the next stage
-  module _ {reciprocal : ℕ} {spare : List ℕ} (asked : MultiplyAsked p reciprocal product (part (k * wide) wide column) spare)
-      {next cells product′ : List ℕ} (widened : w ≤ wide) (parted : Parted m w wide k r next cells)
-      (made : product′ ≡ signedProduct p (negative m k) product (part (k * wide) wide column)) (same : length product′ ≡ length product) where
-    one-less : suc (m - 1) ≡ m
-    one-less = omega arith
-
-    sum-is : degrees K w m T ≡ total (suc m) (degreesOf m w r)
-    sum-is = total-same (suc m) _ _ (λ i li. ap (λ (v : ℕ). height m v - 1) (sym (agree P columns (held .rows) i li)))
-
-    pub turned : StageHeld p P (m - 1) w wide (total (suc m) (degreesOf m w r)) whole next cells product′
-    turned = record {
-      f = with-entry (series (K .ring)) k m T (held .f);
-      rows = record {
-        T = without k T;
-        matrix = subst (λ (x : ℕ). Held (by-rows x (m - 1) w) p next (without k T)) (sym one-less) (held-next (held .rows .matrix) left parted);
-        parted = subst (λ (x : ℕ). Held (by-rows x 1 wide) p cells (λ s _. without k T s (m - 1))) (sym one-less)
-            (held-column (held .rows .matrix) left parted columns widened);
-        stage = subst (λ (x : ℕ). Stage K w (wide - 1) whole x (m - 1) (without k T) (with-entry (series (K .ring)) k m T (held .f))) sum-is
-            (stage-turn K w (wide - 1) whole (held .rows .stage) k row-fits row-none (m - 1) one-less);
-      };
-      size = same ∙ held .size;
-      so-far = rw (made, ← sign-is (series (K .ring)) (k + m) (series (K .ring) .mul (held .f) (T k m)))
-          (holds-signed p P (held .so-far) entry (asked .product) (negative m k));
-    }
-
--- the parts of a whole stage
+-- a stage
 module _ {p reciprocal m w wide budget : ℕ} {r column next product spare indices heights : List ℕ}
     (asked : StageAsked p reciprocal m w wide budget r column next product spare indices heights) where
   pub reduce-asked : {indices′ heights′ : List ℕ} → Pivots (suc m) m (valuesOf m w r) indices′ heights′
@@ -130,31 +58,82 @@ module _ {p reciprocal m w wide budget : ℕ} {r column next product spare indic
     ready = asked .ready;
     prime = asked .prime;
     columns = asked .columns;
-    room = asked .room;
-    index-room = omega (arith, asked .index-room);
-    degree-room = omega (arith, asked .degree-room);
+    room = room-kept (omega arith) (asked .room) refl x y;
     pivots = pivots;
     whole = asked .whole;
     f = asked .held .f;
     held = asked .held .rows;
   }
 
+  -- no step applies to the rows any more
   module _ {left : ℕ} {r′ column′ indices′ heights′ : List ℕ}
       (reduced : ColumnsReduced p m w wide budget left r column r′ column′ indices′ heights′) where
     on : (P : Prime p) (whole : ℕ → Zp p) → StageHeld p P m w wide budget whole r column product
         → StageHeld p P m w wide budget whole r′ column′ product
     on P whole h = record { f = h .f; rows = reduced .by P whole (h .f) (h .rows); size = h .size; so-far = h .so-far }
 
+    -- row k is the lowest zero one
+    module _ (P : Prime p) {whole : ℕ → Zp p} (held : StageHeld p P m w wide budget whole r′ column′ product) {k : ℕ}
+        (lowest : LowestZero (suc m) indices′ k) where
+      abbrev K : Field (Zp p)
+      K = zp-field p P
+
+      abbrev T : ℕ → Row (Zp p)
+      T = held .rows .T
+
+      same-values : (i : ℕ) → i < suc m → valuesOf m w r′ i ≡ values K m w T i
+      same-values = agree P (asked .columns) (held .rows)
+
+      indexed-by : (i : ℕ) → i < suc m → getD indices′ i 0 ≡ index m (values K m w T i)
+      indexed-by i li = reduced .pivots .row i li .index-is ∙ ap (index m) (same-values i li)
+
+      row-fits : k < suc m
+      unfolding index
+      row-fits =
+          let x = zero-row K m w T (held .rows .stage .bounded) (no-pair-same (suc m) m _ _ same-values (reduced .none)) in
+          case-le k (x .at) (λ before. omega (arith, x .fits))
+          (λ past. absurd (lowest .before (x .at) past (indexed-by (x .at) (x .fits) ∙ ap (index m) (x .holds))))
+
+      row-none : values K m w T k ≡ 0
+      row-none = case-le 1 (values K m w T k)
+          (λ some. absurd (omega (arith, index-some m (values K m w T k) some, indexed-by k row-fits, lowest .here row-fits)))
+          (λ zero. omega arith)
+
+      -- its entry in the parted column
+      entry : Holds p (part (k * wide) wide column′) (T k m)
+      entry = column-cell (held .rows .parted) k row-fits
+
+      entry-asked : {spare′ : List ℕ} → length spare′ ≡ length spare → MultiplyAsked p reciprocal product (part (k * wide) wide column′) spare′
+      entry-asked x = multiply-asked p P (held .so-far) entry (asked .ready)
+          (below-more (K .ring) _ _ _ (omega (arith, held .size, asked .room .places))
+          (stage-product K w (wide - 1) whole (held .rows .stage) k row-fits row-none))
+          (omega (arith, held .size, asked .room .places-most)) (omega (arith, held .size, asked .room .cell-room))
+
+      -- the next stage
+      turned : {next′ cells product′ : List ℕ} → Parted m w wide k r′ next′ cells
+          → product′ ≡ signedProduct p (negative m k) product (part (k * wide) wide column′) → length product′ ≡ length product
+          → StageHeld p P (m - 1) w wide left whole next′ cells product′
+      turned parted made same = record {
+        f = with-entry (series (K .ring)) k m T (held .f);
+        rows = record {
+          T = without k T;
+          matrix = rw one-less (held-next (held .rows .matrix) (skip-fits m k) parted);
+          parted = rw one-less (held-column (held .rows .matrix) (skip-fits m k) parted (asked .columns) (asked .widened));
+          stage = rw sum-is (stage-turn K w (wide - 1) whole (held .rows .stage) k row-fits row-none (m - 1) one-less);
+        };
+        size = same ∙ held .size;
+        so-far = rw (made, ← sign-is (series (K .ring)) (k + m) (series (K .ring) .mul (held .f) (T k m)))
+            (holds-signed p P (held .so-far) entry (entry-asked {spare′ = spare} refl .product) (negative m k));
+      }
+        where
+          one-less : suc (m - 1) ≡ m
+          one-less = omega (arith, asked .columns)
+
+          sum-is : left ≡ degrees K w m T
+          sum-is = reduced .together ∙ total-same (suc m) _ _ (λ i li. ap (λ (v : ℕ). height m v - 1) (same-values i li))
+
     reduced-held : StageHeld p (asked .prime) m w wide budget (asked .whole) r′ column′ product
     reduced-held = on (asked .prime) (asked .whole) (asked .held)
-
-    indices-are : (i : ℕ) → i < suc m → getD indices′ i 0 ≡ index m (valuesOf m w r′ i)
-    indices-are i li = reduced .pivots .row i li .index-is
-
-    entry-asked : {spare′ : List ℕ} → length spare′ ≡ length spare → (k : ℕ) → LowestZero (suc m) indices′ k
-        → MultiplyAsked p reciprocal product (part (k * wide) wide column′) spare′
-    entry-asked x k lowest = factor-asked (asked .prime) (asked .columns) reduced-held indices′ indices-are (reduced .none) lowest (asked .ready)
-        (room-kept (asked .room) x)
 
     pub take-asked : {spare′ : List ℕ} → length spare′ ≡ length spare → length indices′ ≡ length indices
         → TakeAsked p reciprocal m w wide r′ column′ next product spare′ indices′
@@ -164,8 +143,8 @@ module _ {p reciprocal m w wide budget : ℕ} {r column next product spare indic
       r-size = reduced-held .rows .matrix .size;
       column-size = reduced-held .rows .parted .size;
       next-size = asked .next-size;
-      index-room = omega (arith, asked .index-room);
-      row = λ k lowest. (row-fits (asked .prime) (asked .columns) reduced-held indices′ indices-are (reduced .none) lowest, entry-asked x k lowest);
+      index-room = omega (arith, asked .room .index-room);
+      row = λ k lowest. (row-fits (asked .prime) reduced-held lowest, entry-asked (asked .prime) reduced-held lowest x);
     }
 
     -- the columns of the next stage have room in front of r
@@ -177,8 +156,6 @@ module _ {p reciprocal m w wide budget : ℕ} {r column next product spare indic
         → TakenOut p m w wide r′ column′ product indices′ next′ column″ product′ → length product′ ≡ length product → front ≡ next′
         → Staged p m w wide budget left r column product (front ++ rest) column″ product′
     staged {front = front} rest taken same is = record {
-      by = λ P whole h.
-          rw (reduced .together, take-at front rest (m * ((m - 1) * w)) (ap length is ∙ taken .parted .next-size), is)
-          (turned P (asked .columns) (on P whole h) indices′ indices-are (reduced .none) (taken .lowest) (entry-asked {spare′ = spare} refl (taken .k) (taken .lowest))
-          (asked .widened) (taken .parted) (taken .factor) same);
+      by = λ P whole h. rw (take-at front rest (m * ((m - 1) * w)) (ap length is ∙ taken .parted .next-size), is)
+          (turned P (on P whole h) (taken .lowest) (taken .parted) (taken .factor) same);
     }

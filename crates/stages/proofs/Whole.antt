@@ -10,6 +10,7 @@ use Rattle.algebra.proofs.PrimeField.{zp-field}
 use Rattle.algebra.proofs.Series.{series}
 use Rattle.determinant.specs.Determinant.{det}
 use Rattle.lists.proofs.Grid.{one-line}
+use Rattle.buffers.specs.Bounds.{Checked}
 use Rattle.buffers.specs.Held.{matrixOf}
 use Rattle.buffers.proofs.Held.{held-matrixOf}
 use Rattle.buffers.proofs.Place.{by-rows}
@@ -19,31 +20,35 @@ use Rattle.stages.specs.Run.{FrontHeld, RunAsked, Ran}
 use Rattle.stages.proofs.Beginning.{first-stage}
 
 module _ {p reciprocal n d : ℕ} {a r : List ℕ} (asked : DeterminantAsked p reciprocal n d a r) where
+  open DeterminantAsked asked using (checked)
+  open Checked checked using (bounds)
+
   -- the room that the stages take, at most
   wide-most : n * d + 1 ≤ 505
-  wide-most = omega (arith, N.mul-le-mul (asked .rows-most) (asked .degree-most))
+  wide-most =
+      let low : d ≤ 63 = omega (arith, bounds .places-most) in
+      omega (arith, N.mul-le-mul (bounds .rows-most) low)
 
   line-most : (n - 1) * (d + 1) ≤ 448
   line-most =
-      let few : n - 1 ≤ 7 = omega (arith, asked .rows-most) in
-      let low : d + 1 ≤ 64 = omega (arith, asked .degree-most) in
-      N.mul-le-mul few low
+      let few : n - 1 ≤ 7 = omega (arith, bounds .rows-most) in
+      N.mul-le-mul few (bounds .places-most)
 
   lines-most : n * ((n - 1) * (d + 1)) ≤ 3584
-  lines-most = N.mul-le-mul (asked .rows-most) line-most
+  lines-most = N.mul-le-mul (bounds .rows-most) line-most
 
   cells-most : n * (n * d + 1) ≤ 4040
-  cells-most = N.mul-le-mul (asked .rows-most) wide-most
+  cells-most = N.mul-le-mul (bounds .rows-most) wide-most
 
   widened : d + 1 ≤ n * d + 1
-  widened = omega (arith, one-line n d (asked .rows))
+  widened = omega (arith, one-line n d (bounds .rows))
 
   pub lay-asked : {columns column : List ℕ} → length columns ≡ 3584 → length column ≡ 4040 → LayAsked n (d + 1) (n * d + 1) a columns column r
   lay-asked x y = record {
-    rows = asked .rows;
+    rows = bounds .rows;
     places = omega arith;
     widened = widened;
-    size = asked .size;
+    size = checked .size;
     r-room = omega (arith, lines-most);
     column-room = omega (arith, cells-most);
     product-size = asked .room;
@@ -56,19 +61,19 @@ module _ {p reciprocal n d : ℕ} {a r : List ℕ} (asked : DeterminantAsked p r
         (det (series (zp-field p P .ring)) n (matrixOf (by-rows n n (d + 1)) p some a)) columns column r′
     begins P some =
         let same : d + 1 - 1 ≡ d = omega arith in
-        first-stage P (asked .rows) (omega arith) widened (rw same (omega arith))
-        (held-matrixOf (by-rows n n (d + 1)) p some a (asked .size) (asked .residues)) laid
+        first-stage P (bounds .rows) (bounds .places) widened (rw same (omega arith))
+        (held-matrixOf (by-rows n n (d + 1)) p some a (checked .size) (checked .residues)) laid
 
     pub stages-asked : {next spare indices degrees : List ℕ} → length columns ≡ 3584 → length column ≡ 4040 → length next ≡ 3584 → length spare ≡ 512
         → length indices ≡ 8 → length degrees ≡ 8 → RunAsked p reciprocal n (d + 1) (n * d + 1) columns column next r′ spare indices degrees
     stages-asked x y z s i j =
-        let one-less : suc (n - 1) ≡ n = omega (arith, asked .rows) in
-        let few = asked .rows-most in
+        let one-less : suc (n - 1) ≡ n = omega (arith, bounds .rows) in
+        let few = bounds .rows-most in
         record {
-          ready = asked .ready;
-          prime = asked .prime;
-          rows = asked .rows;
-          places = omega arith;
+          ready = checked .ready;
+          prime = checked .prime;
+          rows = bounds .rows;
+          places = bounds .places;
           rooms = record {
             room = record {
               columns-most = omega arith;
@@ -76,16 +81,16 @@ module _ {p reciprocal n d : ℕ} {a r : List ℕ} (asked : DeterminantAsked p r
               places-most = omega (arith, wide-most);
               row-room = omega (arith, line-most);
               cell-room = omega (arith, wide-most);
+              index-room = omega arith;
+              degree-room = omega arith;
             };
             widened = widened;
             r-room = rw one-less (omega (arith, lines-most));
             column-room = rw one-less (omega (arith, cells-most));
             next-room = rw one-less (omega (arith, lines-most));
-            index-room = omega arith;
-            degree-room = omega arith;
           };
           whole = _;
-          held = begins (asked .prime) (omega (arith, asked .prime .two));
+          held = begins (checked .prime) (omega (arith, checked .prime .two));
         }
 
     pub is-determinant : {r″ : List ℕ} → Ran p n (d + 1) (n * d + 1) columns column r′ r″ → IsDeterminant p n d a r″

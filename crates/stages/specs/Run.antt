@@ -16,13 +16,11 @@ pub record FrontHeld (p : ℕ) (P : Prime p) (m w wide budget : ℕ) (whole : �
 
 -- the room of the stage of m columns, and so of every later one
 pub record Rooms (m w wide : ℕ) (r column next spare indices degrees : List ℕ) : Type 0 where
-  pub room : Room m w wide spare
+  pub room : Room m w wide spare indices degrees
   pub widened : w ≤ wide
   pub r-room : suc m * (m * w) ≤ length r
   pub column-room : suc m * wide ≤ length column
   pub next-room : suc m * (m * w) ≤ length next
-  pub index-room : suc m ≤ length indices
-  pub degree-room : suc m ≤ length degrees
 
 -- the first stage of n rows
 pub record RunAsked (p reciprocal n w wide : ℕ) (r column next product spare indices degrees : List ℕ) : Type 0 where

@@ -1,7 +1,7 @@
 -- What a whole stage asks of its buffers, and what it leaves to the next.
 use mathlib.Core.Path.{_≡_}
 use mathlib.Core.List.{List}
-use Prim.Native.Nat.{ℕ, suc, _*_, _-_, _≤_, _<_}
+use Prim.Native.Nat.{ℕ, _*_, _-_, _≤_, _<_}
 use lib.ListN.{length, take}
 use Rattle.algebra.specs.Prime.{Prime}
 use Rattle.algebra.specs.Residue.{Zp}
@@ -21,9 +21,7 @@ pub record StageAsked (p reciprocal m w wide budget : ℕ) (r column next produc
   pub ready : Ready p reciprocal
   pub prime : Prime p
   pub columns : 0 < m
-  pub room : Room m w wide spare
-  pub index-room : suc m ≤ length indices
-  pub degree-room : suc m ≤ length degrees
+  pub room : Room m w wide spare indices degrees
   pub widened : w ≤ wide
   pub next-size : length next ≡ m * ((m - 1) * w)
   pub whole : ℕ → Zp p

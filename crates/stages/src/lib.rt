@@ -1,6 +1,5 @@
 // The determinant by stages, on buffers. In the stage of m columns, m + 1 rows are reduced in these, and one more column, which
 // is parted from them, follows; then a row is zero but for its entry in that column, which is a factor of the determinant.
-mod rooms;
 mod stage;
 
 ghost use Rattle.stages.specs.Determinant.{DeterminantAsked, IsDeterminant};
@@ -14,9 +13,9 @@ pub fn determinant(a: &[u16], r: &mut [u16], n: usize, d: usize, md: Modulus)
 {
     let w = d + 1;
     let wide = n * d + 1;
-    let mut columns = rooms::columns();
-    let mut next = rooms::columns();
-    let mut column = rooms::cells();
+    let mut columns = scratch::columns();
+    let mut next = scratch::columns();
+    let mut column = scratch::cells();
     let mut spare = scratch::room();
     let mut index = scratch::eight();
     let mut degree = scratch::eight();

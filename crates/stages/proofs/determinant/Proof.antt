@@ -40,7 +40,7 @@ slice-aggregate-lay-2 c = search needs
 lay-requires : tie.Need-lay-requires
 lay-requires c κs =
     let made = c .before .before .before in
-    lay-asked (made .before .before .before .before .before .before .before .before .pre) (made .before .before .before .before .before .columns .ensures) (made .before .before .before .cells .ensures)
+    lay-asked (made .before .before .before .before .before .before .before .before .pre) (made .before .before .before .before .before .columns .ensures .0) (made .before .before .before .cells .ensures .0)
 
 slice-aggregate-run : tie.Need-slice-aggregate-run
 slice-aggregate-run c = search needs
@@ -64,8 +64,8 @@ run-requires : tie.Need-run-requires
 run-requires c κs =
     let laid = c .before .before .before .before .before .before .before .before .before .before .before in
     let made = laid .before .before .before .before in
-    stages-asked (made .before .before .before .before .before .before .before .before .pre) (laid .lay .ensures) (laid .lay .kept .1 .0 ∙ made .before .before .before .before .before .columns .ensures) (laid .lay .kept .1 .1 .0 ∙ made .before .before .before .cells .ensures)
-    (made .before .before .before .before .columns2 .ensures) (made .before .before .room .ensures .0) (made .before .eight .ensures .0) (made .eight2 .ensures .0)
+    stages-asked (made .before .before .before .before .before .before .before .before .pre) (laid .lay .ensures) (laid .lay .kept .1 .0 ∙ made .before .before .before .before .before .columns .ensures .0) (laid .lay .kept .1 .1 .0 ∙ made .before .before .before .cells .ensures .0)
+    (made .before .before .before .before .columns2 .ensures .0) (made .before .before .room .ensures .0) (made .before .eight .ensures .0) (made .eight2 .ensures .0)
 
 same-length : tie.Need-same-length
 same-length c = search needs
