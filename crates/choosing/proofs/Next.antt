@@ -5,12 +5,12 @@ use mathlib.Core.List.{List}
 use Prim.Native.Nat.{ℕ, _≤_, _<_}
 use native.Mathlib.Decide.{decLt}
 use native.Mathlib.Omega.{arith}
-use lib.ListN.{length, getD}
+use lib.ListN.{getD}
 use Rattle.reduction.specs.Pivot.{index, height, Clash}
 use Rattle.reduction.specs.Pair.{Pair, ordered-by, target}
 use Rattle.reduction.proofs.Index.{index-most}
 use Rattle.choosing.specs.Columns.{Meets}
-use Rattle.pivots.specs.Pivot.{Pivots}
+use Rattle.pivots.specs.Pivot.{valuesOf, Pivots, PivotLists}
 use Rattle.choosing.specs.Pair.{NextAsked, Chosen, IsNext, IsNextOf}
 use Rattle.choosing.specs.declared.pair.Next.{Next}
 use Rattle.choosing.specs.declared.pair.Next.the-variants.{Nothing, Rows}
@@ -61,10 +61,15 @@ module _ (n m : ℕ) (v : ℕ → ℕ) (indices degrees : List ℕ) (p : Pivots 
   next-of Nothing h = λ i j l f c. h i j l f (meets i j (omega arith) f c)
   next-of (Rows l k) x = (pair-of l k x, turned l k x)
 
-  -- what the choice asks of them
-  pub pivots-asked : 0 < m → m ≤ 8 → n ≤ length indices → n ≤ length degrees → NextAsked n indices degrees
-  pivots-asked columns most x y =
-      record { indices-are = record { room = x; few = λ i l. omega (arith, index-at i l, index-most m (v i) columns) }; degrees-room = y }
-
   pub next-is : (x y : Next) → IsNext n indices degrees x → x ≡ y → IsNextOf n m v y
   next-is x y h e = next-of y (subst (IsNext n indices degrees) e h)
+
+-- what the choice asks of lists of pivots
+pub lists-asked : {n m w : ℕ} {r indices degrees : List ℕ} → 0 < m → m ≤ 8 → PivotLists n m w r indices degrees → NextAsked n indices degrees
+lists-asked {m = m} {w} {r} columns most lists = record {
+  indices-are = record {
+    room = lists .index-room;
+    few = λ i l. omega (arith, lists .pivots .row i l .index-is, index-most m (valuesOf m w r i) columns);
+  };
+  degrees-room = lists .degree-room;
+}

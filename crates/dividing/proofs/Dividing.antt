@@ -149,7 +149,7 @@ module _ {p reciprocal n m w : ℕ} {r₀ u₀ v₀ indices degrees : List ℕ} 
           ∙ sym (entry-held .R .at i _ _ li col deg)
 
       pivot-there : 0 < valuesOf m w r₀ i → PivotAsked m w i r₀ indices degrees
-      pivot-there l = pivot-asked n m w columns r₀ (sizes .r-size) indices degrees (lists .pivots) i li l (lists .index-room) (lists .degree-room)
+      pivot-there l = pivot-asked n m w columns r₀ (sizes .r-size) lists i li l
 
       pub row-asked : RowToDivide p reciprocal n m w i (getD indices i 0) (getD degrees i 0) r u v
       row-asked = record {

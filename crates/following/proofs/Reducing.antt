@@ -4,7 +4,7 @@ use mathlib.Core.List.{List}
 use Prim.Native.Nat.{ℕ, suc, _+_, _-_, _*_, _≤_, _<_}
 use native.Mathlib.Nat as N
 use native.Mathlib.Omega.{arith}
-use lib.ListN.{length, getD, length-set}
+use lib.ListN.{length, getD}
 use Rattle.algebra.specs.Field.{Field}
 use Rattle.algebra.specs.Matrix.{Same}
 use Rattle.algebra.specs.Prime.{Prime}
@@ -27,12 +27,12 @@ use Rattle.reduction.specs.Pair.{Reducing}
 use Rattle.reduction.specs.Step.{factor, subtract, reduce-row}
 use Rattle.reduction.proofs.Pair.{pair-reducing, pair-same}
 use Rattle.choosing.specs.Pair.{NextAsked, IsNextOf}
-use Rattle.pivots.specs.Pivot.{valuesOf}
+use Rattle.pivots.specs.Pivot.{valuesOf, PivotLists}
 use Rattle.choosing.specs.declared.pair.Next.the-variants.{Nothing, Rows}
-use Rattle.choosing.proofs.Next.{pivots-asked}
+use Rattle.choosing.proofs.Next.{lists-asked}
 use Rattle.stepping.proofs.Value.{value-held}
 use Rattle.stepping.proofs.Moving.{height-is, step-followed, step-held, step-falls}
-use Rattle.stepping.proofs.RowsOf.{list-short, plan-asked, pivots-after}
+use Rattle.stepping.proofs.RowsOf.{list-short, plan-asked, renewed-lengths, lists-after}
 use Rattle.following.specs.Followed.{StepAsked, StepFollowed, SumAsked}
 use Rattle.following.specs.Columns.{RowsHeld, Room, ReduceAsked, ColumnsReduced}
 
@@ -84,6 +84,9 @@ going-start asked = record {
 module _ {p reciprocal m w wide budget : ℕ} {r₀ column₀ spare₀ indices₀ heights₀ r column spare indices heights : List ℕ}
     (now : Going p reciprocal m w wide budget r₀ column₀ spare₀ indices₀ heights₀ r column spare indices heights) where
   open Going now using (asked)
+
+  lists : PivotLists (suc m) m w r indices heights
+  lists = record { index-room = asked .room .index-room; degree-room = asked .room .degree-room; pivots = asked .pivots }
 
   -- whatever stage the buffers are of
   module _ (P : Prime p) {whole f : ℕ → Zp p} (held : RowsHeld p P m w wide budget whole f r column) where
@@ -150,8 +153,7 @@ module _ {p reciprocal m w wide budget : ℕ} {r₀ column₀ spare₀ indices�
             same i j li lj = addrow-column (series (K .ring)) T l k (series (K .ring) .neg (factor K m w (T l) (T k))) m i j
 
   pub next-asked : NextAsked (suc m) indices heights
-  next-asked = pivots-asked (suc m) m (valuesOf m w r) indices heights (asked .pivots) (asked .columns) (omega (arith, asked .room .columns-most))
-      (asked .room .index-room) (asked .room .degree-room)
+  next-asked = lists-asked (asked .columns) (omega (arith, asked .room .columns-most)) lists
 
   -- the pivot degrees are within the budget together
   pub within : total (suc m) (λ i. getD heights i 0 - 1) ≤ budget
@@ -181,11 +183,11 @@ module _ {p reciprocal m w wide budget : ℕ} {r₀ column₀ spare₀ indices�
 
     pub step-asked : StepAsked p reciprocal m w wide l k (reach m budget k heights) r column spare indices heights
     step-asked = record {
-      plan = plan-asked (suc m) m w (asked .columns) r (asked .held .matrix .size) indices heights (asked .pivots) (asked .ready) (asked .prime)
-          (held-coefficients (by-rows (suc m) m w) p (asked .held .matrix)) (asked .room .index-room) (asked .room .degree-room) listed;
+      plan = plan-asked (suc m) m w (asked .columns) r (asked .held .matrix .size) lists (asked .ready) (asked .prime)
+          (held-coefficients (by-rows (suc m) m w) p (asked .held .matrix)) listed;
       columns = asked .columns;
-      l-short = list-short (suc m) m w (asked .columns) r (asked .held .matrix .size) indices heights (asked .pivots) l (listed .l-fits);
-      k-short = list-short (suc m) m w (asked .columns) r (asked .held .matrix .size) indices heights (asked .pivots) k (listed .k-fits);
+      l-short = list-short (suc m) m w (asked .columns) r (asked .held .matrix .size) lists l (listed .l-fits);
+      k-short = list-short (suc m) m w (asked .columns) r (asked .held .matrix .size) lists k (listed .k-fits);
       l-cell = omega (arith, asked .held .parted .size, line-end l (suc m) (1 * wide) (listed .l-fits));
       k-cell = omega (arith, asked .held .parted .size, line-end k (suc m) (1 * wide) (listed .k-fits));
       column-residues = held-coefficients (by-rows (suc m) 1 wide) p (asked .held .parted);
@@ -203,14 +205,13 @@ module _ {p reciprocal m w wide budget : ℕ} {r₀ column₀ spare₀ indices�
 
       pub going-on : {spare′ : List ℕ} → length spare′ ≡ length spare
           → Going p reciprocal m w wide budget r₀ column₀ spare₀ indices₀ heights₀ r′ column′ spare′ indices′ heights′
-      going-on same = record {
+      going-on same = let kept = renewed-lengths (d .renewed) in record {
         asked = record {
           ready = asked .ready;
           prime = asked .prime;
           columns = asked .columns;
-          room = room-kept (omega arith) (asked .room) same index-kept degree-kept;
-          pivots = pivots-after p (suc m) m w _ _ l k r r′ (asked .held .matrix .size) (listed .l-fits) (d .r-move) indices heights indices′ heights′
-              (asked .room .index-room) (asked .room .degree-room) (asked .pivots) (d .renewed);
+          room = room-kept (omega arith) (asked .room) same (kept .0) (kept .1);
+          pivots = lists-after p (suc m) m w _ _ l k r r′ (asked .held .matrix .size) (listed .l-fits) (d .r-move) lists (d .renewed) .pivots;
           whole = asked .whole;
           f = asked .f;
           held = rows-on (asked .prime) (asked .held) next d;
@@ -219,12 +220,6 @@ module _ {p reciprocal m w wide budget : ℕ} {r₀ column₀ spare₀ indices�
         r-same = d .r-move .size ∙ now .r-same;
         column-same = d .column-move .size ∙ now .column-same;
         spare-same = same ∙ now .spare-same;
-        index-same = index-kept ∙ now .index-same;
-        degree-same = degree-kept ∙ now .degree-same;
+        index-same = kept .0 ∙ now .index-same;
+        degree-same = kept .1 ∙ now .degree-same;
       }
-        where
-          index-kept : length indices′ ≡ length indices
-          index-kept = ap length (d .renewed .indices-are) ∙ length-set indices l _
-
-          degree-kept : length heights′ ≡ length heights
-          degree-kept = ap length (d .renewed .degrees-are) ∙ length-set heights l _

@@ -130,7 +130,7 @@ module _ {p reciprocal n m w k : ℕ} {r u v spare indices degrees : List ℕ} (
       let first : k < removing .rank = indexed-first (removing .columns) (removing .lists) (removing .standing) k k-fits k-some in
       record {
         rows = λ i l.
-            let pivot = leading-asked n m w (removing .columns) r size indices degrees (removing .lists .pivots) i (omega (arith, k-fits))
+            let pivot = leading-asked n m w (removing .columns) r size (removing .lists) i (omega (arith, k-fits))
             (first-some (removing .columns) (removing .lists) (removing .standing) i (omega arith)) in
             other-row pivot (row-fits n m w (removing .columns) r size k k-fits) (pivot .height) (pivot .height-most);
         index-room = omega (arith, k-fits, removing .lists .index-room);

@@ -149,7 +149,7 @@ module _ {p n m w rank : ℕ} {P : Prime p} {A : ℕ → Row (Zp p)} {r u v indi
         → RemoveAsked p reciprocal n m w k i (most - 1) r u v spare indices degrees
     remove-asked ready row-room cell-room =
         let size = s .holding .R .size in
-        let pivot = pivot-asked n m w columns r size indices degrees pivots i i-fits (first-some i (omega (arith, i-before, k-first))) index-room degree-room in
+        let pivot = pivot-asked n m w columns r size lists i i-fits (first-some i (omega (arith, i-before, k-first))) in
         record {
           ready = ready;
           prime = P;
@@ -162,7 +162,7 @@ module _ {p n m w rank : ℕ} {P : Prime p} {A : ℕ → Row (Zp p)} {r u v indi
             l-fits = k-fits;
             k-fits = i-fits;
             differ = λ e. omega (arith, i-before);
-            r-short = list-short n m w columns r size indices degrees pivots i i-fits;
+            r-short = list-short n m w columns r size lists i i-fits;
             u-short = u-short p P n m w A (s .holding) (s .carries .narrow) i _ i-fits (λ j _. u-ends j);
             v-short = v-short p P n m w A (s .holding) (s .carries .narrow) columns places (s .bounded) pivots k k-fits;
             r-room = omega (arith, room, high-most);

@@ -6,7 +6,7 @@ use Prim.Native.Nat.{ℕ, _+_, _-_, _*_, _≤_, _<_}
 use native.Mathlib.Nat as N
 use native.Mathlib.Omega.{arith}
 use native.Mathlib.Decide.{ℕ-discrete}
-use lib.ListN.{length, getD, length-set}
+use lib.ListN.{length, getD}
 use lib.Seq.{getD-set-other}
 use Rattle.algebra.specs.Prime.{Prime}
 use Rattle.lists.specs.Total.{total}
@@ -17,18 +17,18 @@ use Rattle.reduction.specs.Pair.{Reducing}
 use Rattle.reduction.proofs.Index.{clash-second}
 use Rattle.reduction.proofs.Pair.{pair-reducing}
 use Rattle.choosing.specs.Pair.{NextAsked, IsNextOf}
-use Rattle.pivots.specs.Pivot.{valuesOf, degreesOf, Pivots, leastDegree}
+use Rattle.pivots.specs.Pivot.{valuesOf, degreesOf, PivotLists, leastDegree}
 use Rattle.choosing.specs.declared.pair.Next.the-variants.{Nothing, Rows}
 use Rattle.stepping.specs.Asked.{AdvanceAsked, Advanced}
 use Rattle.running.specs.Asked.{StartAsked}
 use Rattle.running.specs.Repeating.{RepeatAsked, Repeated}
 use Rattle.stepping.proofs.Following.{renew-asked}
 use Rattle.pivots.proofs.LeastDegree.{least-below}
-use Rattle.choosing.proofs.Next.{pivots-asked}
+use Rattle.choosing.proofs.Next.{lists-asked}
 use Rattle.stepping.proofs.Value.{values-total}
 use Rattle.stepping.proofs.Short.{holding-matrices}
 use Rattle.running.proofs.Loop.{LoopAt, loop-start, loop-last, loop-turn, loop-falls, row-room, row-short, column-short}
-use Rattle.stepping.proofs.RowsOf.{height-under, list-short, plan-asked, size-after, pivots-after}
+use Rattle.stepping.proofs.RowsOf.{height-under, list-short, plan-asked, renewed-lengths, size-after, lists-after}
 
 -- the buffers keep their lengths
 pub record SameLengths (r₀ u₀ v₀ spare₀ index₀ degree₀ r u v spare indices degrees : List ℕ) : Type 0 where
@@ -42,7 +42,7 @@ pub record SameLengths (r₀ u₀ v₀ spare₀ index₀ degree₀ r u v spare i
 -- at the loop's head
 pub record Running (p n m w : ℕ) (a u₀ v₀ spare₀ index₀ degree₀ r u v spare indices degrees : List ℕ) (count spent : ℕ) : Type 0 where
   pub lengths : SameLengths a u₀ v₀ spare₀ index₀ degree₀ r u v spare indices degrees
-  pub pivots : Pivots n m (valuesOf m w r) indices degrees
+  pub lists : PivotLists n m w r indices degrees
   pub lost : spent + total n (λ i. getD degrees i 0 - 1) ≡ total n (degreesOf m w a)
   pub above : (i : ℕ) → i < n → leastDegree w n degree₀ ≤ getD degrees i 0 - 1 + spent
   pub at : (P : Prime p) (some : 0 < p) → LoopAt p P some n m w a r u v count
@@ -61,7 +61,7 @@ module _ {p reciprocal n m w : ℕ} {a u₀ v₀ spare₀ index₀ degree₀ : L
   pub running-start : Running p n m w a u₀ v₀ spare₀ index₀ degree₀ a u₀ v₀ spare₀ index₀ degree₀ 0 0
   running-start = record {
     lengths = record { r-same = refl; u-same = refl; v-same = refl; spare-same = refl; index-same = refl; degree-same = refl };
-    pivots = asked .lists .pivots;
+    lists = asked .lists;
     lost = omega (arith, total-same n (λ i. getD degree₀ i 0 - 1) (degreesOf m w a) first-degrees);
     above = λ i l. omega (arith, least-below w n degree₀ i l);
     at = λ P some. loop-start input P some (asked .start .u-one) (asked .start .v-one);
@@ -76,23 +76,17 @@ module _ {p reciprocal n m w : ℕ} {a u₀ v₀ spare₀ index₀ degree₀ : L
     size : length r ≡ n * (m * w)
     size = inv .lengths .r-same ∙ input .size
 
-    index-room : n ≤ length indices
-    index-room = omega (arith, inv .lengths .index-same, asked .lists .index-room)
-
-    degree-room : n ≤ length degrees
-    degree-room = omega (arith, inv .lengths .degree-same, asked .lists .degree-room)
-
     -- the counter fits
     pub count-fits : count ≤ 4096
     count-fits = omega (arith, inv .budget, values-total m w a n, matrix-few bounds, ap (λ (x : ℕ). n * x) (N.mul-comm w m))
 
     pub next-asked : NextAsked n indices degrees
-    next-asked = pivots-asked n m (valuesOf m w r) indices degrees (inv .pivots) (bounds .columns) (bounds .columns-most) index-room degree-room
+    next-asked = lists-asked (bounds .columns) (bounds .columns-most) (inv .lists)
 
     pub running-stop : IsNextOf n m (valuesOf m w r) Nothing → Repeated p n m w count a r u v indices
     running-stop none = record {
       reduced = record { by = λ P some. loop-last input P some (inv .at P some) none };
-      indices-are = λ i l. inv .pivots .row i l .index-is;
+      indices-are = λ i l. inv .lists .pivots .row i l .index-is;
     }
 
 -- a turn of the loop: rows l and k are to be reduced
@@ -119,7 +113,7 @@ module _ {p reciprocal n m w : ℕ} {a u₀ v₀ spare₀ index₀ degree₀ r u
   -- the pivots of both rows are in the lists
   pub rows-fit : (l < length degrees) × (k < length degrees) × (l < 8) × (k < 8)
   rows-fit =
-      let room = degree-room asked inv in
+      let room = inv .lists .degree-room in
       let few = bounds .rows-most in
       (omega (arith, l-fits), omega (arith, k-fits), omega (arith, l-fits), omega (arith, k-fits))
 
@@ -128,8 +122,8 @@ module _ {p reciprocal n m w : ℕ} {a u₀ v₀ spare₀ index₀ degree₀ r u
       × (getD degrees l 0 + spent ≤ n * w) × (n * w ≤ 512)
   reach-fits = (
     omega (arith, inv .above k k-fits),
-    omega (arith, reducing .degrees, inv .pivots .row l l-fits .degree-is, inv .pivots .row k k-fits .degree-is),
-    row-room input prime (positive asked) (here asked inv) (inv .pivots) spent (inv .lost) l l-fits,
+    omega (arith, reducing .degrees, inv .lists .pivots .row l l-fits .degree-is, inv .lists .pivots .row k k-fits .degree-is),
+    row-room input prime (positive asked) (here asked inv) (inv .lists .pivots) spent (inv .lost) l l-fits,
     cell-few bounds,
   )
 
@@ -137,21 +131,20 @@ module _ {p reciprocal n m w : ℕ} {a u₀ v₀ spare₀ index₀ degree₀ r u
   advance-asked =
       let at = here asked inv in
       let matrices = holding-matrices (at .holding) in
-      let plan = plan-asked n m w (bounds .columns) r (size asked inv) indices degrees (inv .pivots)
-      ready prime (matrices .r-residues) (index-room asked inv) (degree-room asked inv) reducing in
+      let plan = plan-asked n m w (bounds .columns) r (size asked inv) (inv .lists) ready prime (matrices .r-residues) reducing in
       record {
         plan = plan;
         columns = bounds .columns;
-        l-short = list-short n m w (bounds .columns) r (size asked inv) indices degrees (inv .pivots) l l-fits;
+        l-short = list-short n m w (bounds .columns) r (size asked inv) (inv .lists) l l-fits;
         move = record {
           matrices = matrices;
           l-fits = l-fits;
           k-fits = k-fits;
           differ = reducing .apart;
-          r-short = list-short n m w (bounds .columns) r (size asked inv) indices degrees (inv .pivots) k k-fits;
-          u-short = row-short input prime (positive asked) at (inv .pivots) spent (inv .lost) k _ (leastDegree w n degree₀) k-fits
+          r-short = list-short n m w (bounds .columns) r (size asked inv) (inv .lists) k k-fits;
+          u-short = row-short input prime (positive asked) at (inv .lists .pivots) spent (inv .lost) k _ (leastDegree w n degree₀) k-fits
               (clash-second (reducing .clash)) (λ i li. omega (arith, least-below w n degree₀ i li, first-degrees asked i li)) (omega (arith, reach-fits));
-          v-short = column-short input prime (positive asked) at (inv .pivots) l l-fits;
+          v-short = column-short input prime (positive asked) at (inv .lists .pivots) l l-fits;
           r-room = omega (arith, reach-fits, plan .l-pivot .leading .height-most);
           u-room = omega (arith, reach-fits);
           v-room = omega (arith, reach-fits, plan .l-pivot .leading .height-most, plan .k-pivot .leading .height);
@@ -162,15 +155,11 @@ module _ {p reciprocal n m w : ℕ} {a u₀ v₀ spare₀ index₀ degree₀ r u
 
   -- after the step
   module _ (r′ u′ v′ indices′ degrees′ : List ℕ) (d : Advanced p n m w l k r u v indices degrees r′ u′ v′ indices′ degrees′) where
-    after : Pivots n m (valuesOf m w r′) indices′ degrees′
-    after = pivots-after p n m w _ _ l k r r′ (size asked inv) l-fits (d .moved .subtracted .r-move) indices degrees indices′ degrees′
-        (index-room asked inv) (degree-room asked inv) (inv .pivots) (d .renewed)
-
-    same-degrees : length degrees′ ≡ length degrees
-    same-degrees = ap length (d .renewed .degrees-are) ∙ length-set degrees l _
+    after : PivotLists n m w r′ indices′ degrees′
+    after = lists-after p n m w _ _ l k r r′ (size asked inv) l-fits (d .moved .subtracted .r-move) (inv .lists) (d .renewed)
 
     pub after-fits : l < length degrees′
-    after-fits = omega (arith, rows-fit, same-degrees)
+    after-fits = omega (arith, l-fits, after .degree-room)
 
     -- the height of row l has not grown
     pub lower : getD degrees′ l 0 ≤ getD degrees l 0
@@ -178,10 +167,10 @@ module _ {p reciprocal n m w : ℕ} {a u₀ v₀ spare₀ index₀ degree₀ r u
         let h = height-under n m w (bounds .columns) r′ (size-after p n m w _ _ l k r r′ (size asked inv) l-fits (d .moved .subtracted .r-move))
         l (getD degrees l 0) l-fits (renew-asked _ _ _ _ _ _ _ _ _ (advance-asked .plan) _ _ _ (d .moved .divided) r′ (d .moved .subtracted .r-move)
         (bounds .columns) (advance-asked .l-short) (advance-asked .move .r-short) .short) in
-        omega (arith, after .row l l-fits .degree-is)
+        omega (arith, after .pivots .row l l-fits .degree-is)
 
     pub falls : total n (valuesOf m w r′) < total n (valuesOf m w r)
-    falls = loop-falls input prime (positive asked) (here asked inv) (inv .pivots) (next .0) (next .1) (d .moved)
+    falls = loop-falls input prime (positive asked) (here asked inv) (inv .lists .pivots) (next .0) (next .1) (d .moved)
 
     others : (i : ℕ) → i ≢ l → getD degrees′ i 0 ≡ getD degrees i 0
     others i ne = ap (λ (t : List ℕ). getD t i 0) (d .renewed .degrees-are) ∙ getD-set-other degrees l i _ 0 ne
@@ -197,15 +186,15 @@ module _ {p reciprocal n m w : ℕ} {a u₀ v₀ spare₀ index₀ degree₀ r u
         u-same = d .moved .subtracted .u-move .size ∙ inv .lengths .u-same;
         v-same = d .moved .subtracted .v-move .size ∙ inv .lengths .v-same;
         spare-same = same ∙ inv .lengths .spare-same;
-        index-same = ap length (d .renewed .indices-are) ∙ length-set indices l _ ∙ inv .lengths .index-same;
-        degree-same = same-degrees ∙ inv .lengths .degree-same;
+        index-same = renewed-lengths (d .renewed) .0 ∙ inv .lengths .index-same;
+        degree-same = renewed-lengths (d .renewed) .1 ∙ inv .lengths .degree-same;
       };
-      pivots = after;
+      lists = after;
       lost = omega (arith, inv .lost, change, lower, high-is, low-is);
       above = λ i li. elim (ℕ-discrete i l) [
         | yes e ↦ rw e (omega (arith, inv .above l l-fits, lower, high-is, low-is))
         | no ne ↦ omega (arith, inv .above i li, others i ne)
       ];
-      at = λ P some. loop-turn input P some (inv .at P some) (inv .pivots) (next .0) (next .1) (d .moved);
+      at = λ P some. loop-turn input P some (inv .at P some) (inv .lists .pivots) (next .0) (next .1) (d .moved);
       budget = omega (arith, inv .budget, falls);
     }

@@ -32,7 +32,7 @@ use Rattle.running.specs.SteppedOnce.{SteppedOnce}
 use Rattle.stepping.proofs.Value.{value-held}
 use Rattle.stepping.proofs.Moving.{step-held}
 use Rattle.stepping.proofs.Following.{row-asked}
-use Rattle.choosing.proofs.Next.{pivots-asked}
+use Rattle.choosing.proofs.Next.{lists-asked}
 use Rattle.stepping.proofs.RowsOf.{list-short, plan-asked}
 
 module _ {p reciprocal n m w : ℕ} {r : List ℕ} (asked : Checked p reciprocal n m w r) where
@@ -73,7 +73,7 @@ module _ {p reciprocal n m w : ℕ} {r : List ℕ} (asked : Checked p reciprocal
 
   -- what the choice of the rows asks
   pub choice-asked : {indices degrees : List ℕ} → PivotLists n m w r indices degrees → NextAsked n indices degrees
-  choice-asked found = pivots-asked n m (valuesOf m w r) _ _ (found .pivots) columns columns-most (found .index-room) (found .degree-room)
+  choice-asked = lists-asked columns columns-most
 
   -- rows l and k are to be reduced
   module _ {l k : ℕ} (next : IsNextOf n m (valuesOf m w r) (Rows l k)) where
@@ -87,14 +87,13 @@ module _ {p reciprocal n m w : ℕ} {r : List ℕ} (asked : Checked p reciprocal
     module _ {indices degrees : List ℕ} (found : PivotLists n m w r indices degrees) where
       -- what the plan asks
       pub planning-asked : PlanAsked p reciprocal m w l k r indices degrees
-      planning-asked = plan-asked n m w columns r (asked .size) indices degrees (found .pivots) (asked .ready) (asked .prime) (asked .residues)
-          (found .index-room) (found .degree-room) reducing
+      planning-asked = plan-asked n m w columns r (asked .size) found (asked .ready) (asked .prime) (asked .residues) reducing
 
       module _ {e c f : ℕ} (g : Factor p m w l k r indices degrees e c f) where
         -- what the subtraction asks
         pub subtraction-asked : {spare : List ℕ} → length spare ≡ 512 → RowsInBuffer p reciprocal f e m w (getD degrees k 0) l k r spare
         subtraction-asked room = row-asked p reciprocal m w l k r indices degrees planning-asked e c f g
-            (list-short n m w columns r (asked .size) indices degrees (found .pivots) k (reducing .k-fits)) (omega (arith, row-few (asked .bounds)))
+            (list-short n m w columns r (asked .size) found k (reducing .k-fits)) (omega (arith, row-few (asked .bounds)))
 
         -- the subtraction is the step
         pub stepped-pair : {r′ : List ℕ} → RowAdded p m w f e l k r r′ → SteppedOnce p n m w 1 r r′

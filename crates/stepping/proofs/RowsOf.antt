@@ -7,7 +7,7 @@ use native.Mathlib.Nat as N
 use native.Mathlib.Decide.{ℕ-discrete}
 use Rattle.algebra.proofs.Cases.{case-le}
 use native.Mathlib.Omega.{arith}
-use lib.ListN.{length, getD}
+use lib.ListN.{length, getD, length-set}
 use lib.Seq.{ext-getD, getD-set-same, getD-set-other}
 use Rattle.algebra.specs.Prime.{Prime}
 use Rattle.residues.specs.Modulus.{Ready}
@@ -21,7 +21,7 @@ use Rattle.rows.specs.Asked.{Short}
 use Rattle.reduction.specs.Pivot.{pivot, index, height}
 use Rattle.reduction.specs.Pair.{Reducing}
 use Rattle.reduction.proofs.Index.{index-some, height-some, height-bound, clash-first, clash-second}
-use Rattle.pivots.specs.Pivot.{valueOf, rowOf, valuesOf, IsPivotOf, Pivots}
+use Rattle.pivots.specs.Pivot.{valueOf, rowOf, valuesOf, IsPivotOf, PivotLists}
 use Rattle.lists.proofs.Grid.{line-end, within}
 use Rattle.pivots.proofs.Search.{past-height}
 use Rattle.planning.specs.Factor.{leadingAt}
@@ -52,7 +52,9 @@ module _ (n m w : ℕ) (columns : 0 < m) (r : List ℕ) (size : length r ≡ n *
       ∙ short .zero ((v - 1) % m) ((v - 1) / m) column (N.le-div-iff-mul-le columns .1 (omega arith)) degree))))
 
   -- the pivots that stand in two lists
-  module _ (indices degrees : List ℕ) (pivots : Pivots n m (valuesOf m w r) indices degrees) where
+  module _ {indices degrees : List ℕ} (lists : PivotLists n m w r indices degrees) where
+    open PivotLists lists using (pivots)
+
     -- of a row that is not zero
     module _ (i : ℕ) (li : i < n) (some : 0 < valuesOf m w r i) where
       v : ℕ
@@ -91,24 +93,35 @@ module _ (n m w : ℕ) (columns : 0 < m) (r : List ℕ) (size : length r ≡ n *
           last-is (w * m) (λ x. getD (rowOf m w r i) (x % m * w + x / m) 0) .top some
           (row-at i (pivot m v .col) (pivot m v .deg) li column-fits degree-fits ∙ sym (ap₂ (λ (x y : ℕ). getD r (place m w i x y) 0) col deg) ∙ z)
 
-      pub pivot-asked : n ≤ length indices → n ≤ length degrees → PivotAsked m w i r indices degrees
-      pivot-asked x y = record { index-room = omega arith; degree-room = omega arith; leading = leading-asked; nonzero = N.pos-of-ne-zero lead }
+      pub pivot-asked : PivotAsked m w i r indices degrees
+      pivot-asked = record {
+        index-room = omega (arith, lists .index-room);
+        degree-room = omega (arith, lists .degree-room);
+        leading = leading-asked;
+        nonzero = N.pos-of-ne-zero lead;
+      }
 
     -- what the places of a row have above its height, as the lists have it
     pub list-short : (i : ℕ) → i < n → Short w (getD degrees i 0) m (place m w i) r
     list-short i li = subst (λ (h : ℕ). Short w h m (place m w i) r) (sym (pivots .row i li .degree-is)) (row-short i li)
 
     -- of two rows that a step reduces
-    pub plan-asked : {p reciprocal l k : ℕ} → Ready p reciprocal → Prime p → Coefficients p r → n ≤ length indices → n ≤ length degrees
-        → Reducing n m (valuesOf m w r) l k → PlanAsked p reciprocal m w l k r indices degrees
-    plan-asked {l = l} {k = k} ready prime residues x y reducing = record {
+    pub plan-asked : {p reciprocal l k : ℕ} → Ready p reciprocal → Prime p → Coefficients p r → Reducing n m (valuesOf m w r) l k
+        → PlanAsked p reciprocal m w l k r indices degrees
+    plan-asked {l = l} {k = k} ready prime residues reducing = record {
       ready = ready;
       prime = prime;
       residues = residues;
-      l-pivot = pivot-asked l (reducing .l-fits) (clash-first (reducing .clash)) x y;
-      k-pivot = pivot-asked k (reducing .k-fits) (clash-second (reducing .clash)) x y;
+      l-pivot = pivot-asked l (reducing .l-fits) (clash-first (reducing .clash));
+      k-pivot = pivot-asked k (reducing .k-fits) (clash-second (reducing .clash));
       order = omega (arith, pivots .row l (reducing .l-fits) .degree-is, pivots .row k (reducing .k-fits) .degree-is, reducing .degrees);
     }
+
+-- a pivot found anew leaves the lists as long as they were
+pub renewed-lengths : {m w l : ℕ} {r indices degrees indices′ degrees′ : List ℕ} → Renewed m w l r indices degrees indices′ degrees′
+    → (length indices′ ≡ length indices) × (length degrees′ ≡ length degrees)
+renewed-lengths {l = l} {indices = indices} {degrees} new =
+    (ap length (new .indices-are) ∙ length-set indices l _, ap length (new .degrees-are) ∙ length-set degrees l _)
 
 -- a step changes row l alone, and of the pivots that of row l
 module _ (p n m w f e l k : ℕ) (r r′ : List ℕ) (size : length r ≡ n * (m * w)) (ll : l < n) (added : RowAdded p m w f e l k r r′) where
@@ -129,16 +142,20 @@ module _ (p n m w f e l k : ℕ) (r r′ : List ℕ) (size : length r ≡ n * (m
       apart : (x : ℕ) → x < m * w → (j t : ℕ) → j < m → t < w → i * (m * w) + x ≡ place m w l j t → i ≡ l
       apart x inside j t lj lt same = block-own (m * w) i x l (j * w + t) inside (within j t m w lj lt) same .0
 
-  pub pivots-after : (indices degrees indices′ degrees′ : List ℕ) → n ≤ length indices → n ≤ length degrees → Pivots n m (valuesOf m w r) indices degrees
-      → Renewed m w l r′ indices degrees indices′ degrees′ → Pivots n m (valuesOf m w r′) indices′ degrees′
-  pivots-after indices degrees indices′ degrees′ x y before new = record { row = λ i li. go i li (ℕ-discrete i l) }
+  pub lists-after : {indices degrees indices′ degrees′ : List ℕ} → PivotLists n m w r indices degrees
+      → Renewed m w l r′ indices degrees indices′ degrees′ → PivotLists n m w r′ indices′ degrees′
+  lists-after {indices} {degrees} {indices′} {degrees′} lists new = record {
+    index-room = omega (arith, lists .index-room, renewed-lengths new);
+    degree-room = omega (arith, lists .degree-room, renewed-lengths new);
+    pivots = record { row = λ i li. go i li (ℕ-discrete i l) };
+  }
     where
       go : (i : ℕ) → i < n → Dec (i ≡ l) → IsPivotOf m (valuesOf m w r′ i) (getD indices′ i 0) (getD degrees′ i 0)
       go i li (yes q) = rw q (record {
-        index-is = ap (λ (t : List ℕ). getD t l 0) (new .indices-are) ∙ getD-set-same indices l _ 0 (omega arith);
-        degree-is = ap (λ (t : List ℕ). getD t l 0) (new .degrees-are) ∙ getD-set-same degrees l _ 0 (omega arith);
+        index-is = ap (λ (t : List ℕ). getD t l 0) (new .indices-are) ∙ getD-set-same indices l _ 0 (omega (arith, lists .index-room));
+        degree-is = ap (λ (t : List ℕ). getD t l 0) (new .degrees-are) ∙ getD-set-same degrees l _ 0 (omega (arith, lists .degree-room));
       })
       go i li (no ne) = record {
-        index-is = ap (λ (t : List ℕ). getD t i 0) (new .indices-are) ∙ getD-set-other indices l i _ 0 ne ∙ before .row i li .index-is ∙ ap (λ (t : List ℕ). index m (valueOf m w t)) (sym (other-row i li ne));
-        degree-is = ap (λ (t : List ℕ). getD t i 0) (new .degrees-are) ∙ getD-set-other degrees l i _ 0 ne ∙ before .row i li .degree-is ∙ ap (λ (t : List ℕ). height m (valueOf m w t)) (sym (other-row i li ne));
+        index-is = ap (λ (t : List ℕ). getD t i 0) (new .indices-are) ∙ getD-set-other indices l i _ 0 ne ∙ lists .pivots .row i li .index-is ∙ ap (λ (t : List ℕ). index m (valueOf m w t)) (sym (other-row i li ne));
+        degree-is = ap (λ (t : List ℕ). getD t i 0) (new .degrees-are) ∙ getD-set-other degrees l i _ 0 ne ∙ lists .pivots .row i li .degree-is ∙ ap (λ (t : List ℕ). height m (valueOf m w t)) (sym (other-row i li ne));
       }

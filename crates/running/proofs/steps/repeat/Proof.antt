@@ -30,7 +30,7 @@ turn : (c : tie.After-l Inv-loop μ-loop) → let head = c .before .before .befo
     (c .l .given .0 .0) (c .l .given .0 .1 .0)
 turn c =
     let head = c .before .before .before .before .before in
-    record { asked = asked head; inv = head .loop .inv; next = next-is _ _ _ _ _ (head .loop .inv .pivots) _ _ (c .before .before .next-rows .ensures) (c .l .given .1) }
+    record { asked = asked head; inv = head .loop .inv; next = next-is _ _ _ _ _ (head .loop .inv .lists .pivots) _ _ (c .before .before .next-rows .ensures) (c .l .given .1) }
 
 least-requires : tie.Need-least-requires Inv-loop μ-loop
 least-requires c κs = search needs
@@ -68,7 +68,7 @@ same-length-6 c = c .before .before .before .before .before .loop .inv .lengths 
 returns : tie.Need-returns Inv-loop μ-loop
 returns c =
     let head = c .before .before .before .before .before in
-    running-stop (asked head) (head .loop .inv) (next-is _ _ _ _ _ (head .loop .inv .pivots) _ _ (c .before .before .next-rows .ensures) (c .enum-told .given .1))
+    running-stop (asked head) (head .loop .inv) (next-is _ _ _ _ _ (head .loop .inv .lists .pivots) _ _ (c .before .before .next-rows .ensures) (c .enum-told .given .1))
 
 mul-reach : tie.Need-mul-reach Inv-loop μ-loop
 mul-reach c = omega (arith, rows-fit (turn (c .before)))
