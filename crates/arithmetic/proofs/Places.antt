@@ -18,7 +18,7 @@ use Rattle.lists.proofs.Last.{last-is}
 use Rattle.lists.proofs.Total.{total-suc, total-more}
 use Rattle.poly.proofs.Ending.{ends-height}
 use Rattle.poly.specs.Polynomial.{height}
-use Rattle.arithmetic.specs.Operations.{shifted, plusTimes, plusMultiple, Multiple, Scaling, productAt}
+use Rattle.arithmetic.specs.Operations.{shifted, plusTimes, plusMultiple, Multiple, AddAsked, productAt}
 
 -- a product's coefficient at k
 module _ (a b : List ℕ) (k : ℕ) where
@@ -133,7 +133,7 @@ module _ (p reciprocal c e : ℕ) (a b : List ℕ) (pre : Multiple p reciprocal 
     within = omega (arith, ends-height b .within)
 
     -- what a sum asks of the part that is lent, and what is there when it comes back
-    pub part-lent : Scaling p reciprocal c (take (e + n - e) (drop e a)) (take n b)
+    pub part-lent : AddAsked p reciprocal c (take (e + n - e) (drop e a)) (take n b)
     part-lent = record {
       ready = pre .ready;
       factor = pre .factor;

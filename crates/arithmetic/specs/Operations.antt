@@ -34,8 +34,8 @@ pub record Multiple (p reciprocal c e : ℕ) (a b : List ℕ) : Type 0 where
 abbrev pub plusTimes : ℕ → ℕ → List ℕ → ℕ → ℕ → ℕ
 plusTimes p c b i x = (x + c * getD b i 0) % p
 
--- what the sum of two polynomials of equally many places asks
-pub record Scaling (p reciprocal c : ℕ) (a b : List ℕ) : Type 0 where
+-- what the sum of a and c times b asks, which have equally many places
+pub record AddAsked (p reciprocal c : ℕ) (a b : List ℕ) : Type 0 where
   pub ready : Ready p reciprocal
   pub factor : c < p
   pub same : length a ≡ length b

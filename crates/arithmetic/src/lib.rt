@@ -4,14 +4,14 @@ ghost use Prim.Native.Nat.{_+_, _*_, _-_, _%_, _<_, _≤_};
 ghost use lib.ListN.{length};
 ghost use Rattle.lists.specs.Change.{imap};
 ghost use Rattle.residues.specs.Modulus.{Ready};
-ghost use Rattle.arithmetic.specs.Operations.{plusTimes, Scaling, plusMultiple, Multiple, productAt, productOf, Product, scaledBy, zeros};
+ghost use Rattle.arithmetic.specs.Operations.{plusTimes, AddAsked, plusMultiple, Multiple, productAt, productOf, Product, scaledBy, zeros};
 use poly::polynomial;
 use residues::Modulus;
 use residues::Residue;
 
 // a plus c times b, place by place.
 fn add_scaled(a: &mut [u16], b: &[u16], c: Residue, m: Modulus)
-    requires { ⌜ Scaling (m .p) (m .reciprocal) (c .0) (now a) (now b) ⌝ }
+    requires { ⌜ AddAsked (m .p) (m .reciprocal) (c .0) (now a) (now b) ⌝ }
     ensures { λ _. ⌜ now (a .exit) ≡ imap (plusTimes (m .p) (c .0) (now (b .entry))) (now (a .entry)) ⌝ }
 {
     let mut i = 0;

@@ -1,11 +1,12 @@
 -- The laws of the places, and paper 01's layout.
-use mathlib.Core.Path.{_≡_, refl, sym, ap, _∙_}
-use Prim.Native.Nat.{ℕ, suc, _+_, _*_, _/_, _%_, _<_}
+use mathlib.Core.Path.{_≡_, refl, sym, ap, fun-ext, _∙_}
+use mathlib.Core.Logic.{_≢_}
+use Prim.Native.Nat.{ℕ, suc, _+_, _*_, _/_, _%_, _≤_, _<_}
 use native.Mathlib.Omega.{arith}
 use native.Mathlib.Nat as N
 use Rattle.algebra.proofs.Cases.{case-le}
 use Rattle.lists.proofs.Grid.{line-end, within}
-use Rattle.buffers.specs.Place.{inRow, place, Outside, Hit, Layout}
+use Rattle.buffers.specs.Place.{inRow, place, spaced, Outside, Hit, Layout}
 
 -- a place tells its block and its place in the block
 pub block-own : (s i r i′ r′ : ℕ) → r < s → r′ < s → i * s + r ≡ i′ * s + r′ → (i ≡ i′) × (r ≡ r′)
@@ -24,6 +25,21 @@ pub place-own : (m w i j t i′ j′ t′ : ℕ) → j < m → t < w → j′ < 
 place-own m w i j t i′ j′ t′ lj lt lj′ lt′ e =
     let (row, rest) = block-own (m * w) i (inRow w j t) i′ (inRow w j′ t′) (within j t m w lj lt) (within j′ t′ m w lj′ lt′) e in
     (row, block-own w j t j′ t′ lt lt′ rest)
+
+-- cells at distances of at least their size have no place in common
+pub spaced-apart : {w stride : ℕ} (start : ℕ) → w ≤ stride → (i j t u : ℕ) → j < i → t < w → u < w → spaced start stride j t ≢ spaced start stride i u
+spaced-apart {stride = stride} start wide i j t u lj lt lu same = omega (arith, line-end j i stride lj)
+
+-- the cells of a row follow one another at equal distances, and so do those of a column
+pub rows-spaced : (m w : ℕ) → (λ i. spaced (i * (m * w)) w) ≡ place m w
+rows-spaced m w = fun-ext (λ i. fun-ext (λ j. fun-ext (λ t. omega arith)))
+
+pub columns-spaced : (n w : ℕ) → _≡_ {A = ℕ → ℕ → ℕ → ℕ} (λ x. spaced (x * w) (n * w)) (λ x i. place n w i x)
+columns-spaced n w = fun-ext (λ x. fun-ext (λ i. fun-ext (λ t. omega arith)))
+
+-- row i ends within an n by n matrix, and the cell of column x within its row
+pub cell-ends : {n i x : ℕ} (w : ℕ) → i < n → x < n → (i * (n * w) + n * w ≤ n * (n * w)) × (x * w + w ≤ n * w)
+cell-ends {n} {i} {x} w li lx = (line-end i n (n * w) li, line-end x n w lx)
 
 -- every place of n blocks has its block and its place in the block
 block-hit : (n s x : ℕ) → x < n * s → ((x / s < n) × (x % s < s)) × (x / s * s + x % s ≡ x)

@@ -12,6 +12,10 @@ inRow w j t = j * w + t
 abbrev pub place : ℕ → ℕ → ℕ → ℕ → ℕ → ℕ
 place m w i j t = i * (m * w) + inRow w j t
 
+-- cells that follow one another at equal distances, the first at `start`: the place of the coefficient of degree t in cell i
+abbrev pub spaced : ℕ → ℕ → ℕ → ℕ → ℕ
+spaced start stride i t = start + i * stride + t
+
 -- x is no place of `count` cells of w places, of which cell i has its coefficient of degree t at `at i t`
 abbrev pub Outside : (w count : ℕ) (at : ℕ → ℕ → ℕ) (x : ℕ) → Type 0
 Outside w count at x = (i t : ℕ) → i < count → t < w → x ≢ at i t

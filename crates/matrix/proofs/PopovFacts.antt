@@ -22,20 +22,20 @@ use Rattle.popov.specs.PopovFacts.{PopovFacts}
 use Rattle.popov.proofs.Facts.{popov-unique, popov-facts}
 use Rattle.popov.proofs.Equivalence.{popov-equivalent}
 use Rattle.refusals.specs.Refused.{reductionSizes}
-use Rattle.refusals.proofs.Answering.{not-done, InOrder, in-order}
-use Rattle.refusals.proofs.Unique.{refusal-same, answering-unique, told-unique}
+use Rattle.refusals.proofs.Answering.{InOrder, in-order}
+use Rattle.refusals.proofs.Unique.{Said, said-refused, said-unique, answering-unique}
 use Rattle.stepping.specs.Holding.{Holding}
 use Rattle.finishing.specs.Finishing.{PopovBy, IsPopov}
-use Rattle.matrix.specs.Answer.{lengths}
+use Rattle.matrix.specs.Answer.{lengths, Outcome}
 use Rattle.matrix.specs.Popov.{PopovPromised, PopovAnswered, numbersOf}
 use Rattle.matrix.specs.declared.popov_form.PopovAnswer.{PopovAnswer}
 use Rattle.matrix.specs.declared.popov_form.PopovAnswer.the-variants.{NotDone, Done}
 use Rattle.matrix.proofs.Unique.{holding-unique}
 
 -- the input determines all that is returned
-popov-done-unique : {p n m w rank first second rank′ first′ second′ : ℕ} {a r u v r′ u′ v′ : List ℕ} → Prime p
+pub popov-done-unique : {p n m w rank first second rank′ first′ second′ : ℕ} {a r u v r′ u′ v′ : List ℕ} → Prime p
     → IsPopov p n m w a r u v rank first second → IsPopov p n m w a r′ u′ v′ rank′ first′ second′
-    → _≡_ {A = ℕ × ℕ × ℕ × List ℕ × List ℕ × List ℕ} (rank, first, second, r, u, v) (rank′, first′, second′, r′, u′, v′)
+    → _≡_ {A = Outcome} (rank, first, second, r, u, v) (rank′, first′, second′, r′, u′, v′)
 popov-done-unique {p} {n} {m} {w} {rank} {rank′ = rank′} {r = r} {u} {v} P x y =
     let some : 0 < p = omega (arith, P .two) in
     let f = x .by P some in
@@ -45,30 +45,19 @@ popov-done-unique {p} {n} {m} {w} {rank} {rank′ = rank′} {r = r} {u} {v} P x
     let ranks : rank ≡ rank′ = x .rank-is ∙ ap (λ (l : List ℕ). chosen n (valuesOf m w l)) same-r ∙ sym (y .rank-is) in
     λ i. (ranks i, firsts i, seconds i, same-r i, same-u i, same-v i)
 
--- an answer is determined by its numbers
-popov-answer-same : (x y : PopovAnswer) → numbersOf x ≡ numbersOf y → x ≡ y
-popov-answer-same (NotDone x) (NotDone y) same = ap NotDone (refusal-same x y (λ i. same i .0) (λ i. same i .1))
-popov-answer-same (NotDone x) (Done rank first second) same = not-done x (λ i. same i .0)
-popov-answer-same (Done rank first second) (NotDone y) same = let back = sym same in not-done y (λ i. back i .0)
-popov-answer-same (Done rank first second) (Done rank′ first′ second′) same = λ i. Done (same i .2) (same i .3) (same i .4)
+-- an answer is what its numbers say
+popov-answer-said : {r u v : List ℕ} (x : PopovAnswer)
+    → let s = numbersOf x in Said {Outcome = Outcome} NotDone (λ o. Done (o .0) (o .1) (o .2)) (s .0, s .1, (s .2, s .3, s .4, r, u, v)) x
+popov-answer-said (NotDone x) = said-refused x
+popov-answer-said (Done rank first second) = record { is = refl }
 
-module _ (p n m d : ℕ) (a r u v r₁ u₁ v₁ r₂ u₂ v₂ : List ℕ) where
-  -- two answers that the promise allows are equal in every number, and so is every buffer at exit
-  pub popov-promised-unique : {number₁ place₁ rank₁ first₁ second₁ number₂ place₂ rank₂ first₂ second₂ : ℕ}
-      → PopovPromised p n m d a r u v r₁ u₁ v₁ number₁ place₁ rank₁ first₁ second₁
-      → PopovPromised p n m d a r u v r₂ u₂ v₂ number₂ place₂ rank₂ first₂ second₂
-      → (number₁ ≡ number₂) × (place₁ ≡ place₂) × (rank₁ ≡ rank₂) × (first₁ ≡ first₂) × (second₁ ≡ second₂) × (r₁ ≡ r₂) × (u₁ ≡ u₂) × (v₁ ≡ v₂)
-  popov-promised-unique f g =
-      let (numbers, places, same) = answering-unique (told-unique false p n m d (lengths a r u v) (reductionSizes n m d) a)
-      (λ none. popov-done-unique (in-order {determinant = false} none (f .told) .numbers .modulus .prime)) f g in
-      (numbers, places, (λ i. same i .0), (λ i. same i .1), (λ i. same i .2), (λ i. same i .3), (λ i. same i .4), (λ i. same i .5))
-
-  -- so the enums are equal
-  pub popov-answered-unique : (x y : PopovAnswer) → PopovAnswered p n m d a r u v r₁ u₁ v₁ x → PopovAnswered p n m d a r u v r₂ u₂ v₂ y
-      → (x ≡ y) × (r₁ ≡ r₂) × (u₁ ≡ u₂) × (v₁ ≡ v₂)
-  popov-answered-unique x y f g =
-      let (numbers, places, ranks, firsts, seconds, same-r, same-u, same-v) = popov-promised-unique f g in
-      (popov-answer-same x y (λ i. (numbers i, places i, ranks i, firsts i, seconds i)), same-r, same-u, same-v)
+-- two answers that the promise allows are equal, and so is every buffer at exit
+pub popov-answered-unique : {p n m d : ℕ} {a r u v r₁ u₁ v₁ r₂ u₂ v₂ : List ℕ} (x y : PopovAnswer)
+    → PopovAnswered p n m d a r u v r₁ u₁ v₁ x → PopovAnswered p n m d a r u v r₂ u₂ v₂ y
+    → _≡_ {A = PopovAnswer × List ℕ × List ℕ × List ℕ} (x, r₁, u₁, v₁) (y, r₂, u₂, v₂)
+popov-answered-unique x y f g =
+    let same = answering-unique false popov-done-unique f g in
+    λ i. (said-unique (popov-answer-said x) (popov-answer-said y) same i, same i .2 .3, same i .2 .4, same i .2 .5)
 
 -- a call that is answered by 0: p is prime, and the matrix in a is the one that its places say
 module _ {p n m d : ℕ} {a r u v r′ u′ v′ : List ℕ} {place rank first second : ℕ}

@@ -1,10 +1,9 @@
 -- The promises of the services leave one answer only.
-use mathlib.Core.Path.{_≡_, sym, ap, subst, _∙_}
+use mathlib.Core.Path.{_≡_, refl, sym, ap, subst, _∙_}
 use mathlib.Core.Bool.{false}
 use mathlib.Core.Logic.{_⊎_, inl, inr}
-use mathlib.Core.List.{List, [], _∷_}
+use mathlib.Core.List.{List}
 use Prim.Native.Nat.{ℕ, _*_}
-use lib.ListN.{length}
 use native.Mathlib.Omega.{arith}
 use Rattle.algebra.specs.Prime.{Prime}
 use Rattle.algebra.specs.Residue.{Zp}
@@ -17,15 +16,13 @@ use Rattle.reduction.specs.Step.{Carried}
 use Rattle.reduction.proofs.Ending.{runs-unique}
 use Rattle.reduction.proofs.Pair.{pair-exclusive}
 use Rattle.pivots.specs.Pivot.{valueOf, rowOf}
-use Rattle.refusals.specs.Refused.{reductionSizes, stepSizes}
-use Rattle.refusals.proofs.Answering.{not-done, in-order}
-use Rattle.refusals.proofs.Unique.{refusal-same, told-unique, answering-unique}
+use Rattle.refusals.proofs.Unique.{Said, said-refused, said-unique, answering-unique}
 use Rattle.stepping.specs.Holding.{Holding}
 use Rattle.running.specs.Listed.{maskOf}
 use Rattle.running.specs.Reduced.{Reduced, IsDone}
 use Rattle.running.specs.SteppedOnce.{SteppedOnce}
-use Rattle.matrix.specs.Answer.{lengths, Promised, Answered, numbersOf}
-use Rattle.matrix.specs.Single.{StepPromised, StepAnswered}
+use Rattle.matrix.specs.Answer.{numbersOf, Outcome, Answered}
+use Rattle.matrix.specs.Single.{StepAnswered}
 use Rattle.matrix.specs.Single as Single
 use Rattle.matrix.specs.declared.single.StepAnswer.{StepAnswer}
 use Rattle.matrix.specs.declared.single.StepAnswer.the-variants as Step
@@ -51,7 +48,7 @@ reduced-unique p n m w c c′ a r u v r′ u′ v′ P x y =
 -- so it determines all that is returned, for rank and rows are read off the result
 pub done-unique : {p n m w rank count rows rank′ count′ rows′ : ℕ} {a r u v r′ u′ v′ : List ℕ} → Prime p
     → IsDone p n m w a r u v rank count rows → IsDone p n m w a r′ u′ v′ rank′ count′ rows′
-    → _≡_ {A = ℕ × ℕ × ℕ × List ℕ × List ℕ × List ℕ} (rank, count, rows, r, u, v) (rank′, count′, rows′, r′, u′, v′)
+    → _≡_ {A = Outcome} (rank, count, rows, r, u, v) (rank′, count′, rows′, r′, u′, v′)
 done-unique {p} {n} {m} {w} {rank} {count} {rows} {rank′} {count′} {rows′} {a} {r} {u} {v} {r′} {u′} {v′} P x y =
     let (counts, same-r, same-u, same-v) = reduced-unique p n m w count count′ a r u v r′ u′ v′ P (x .reduced) (y .reduced) in
     let z : List ℕ → ℕ → ℕ = λ l i. valueOf m w (rowOf m w l i) in
@@ -59,29 +56,19 @@ done-unique {p} {n} {m} {w} {rank} {count} {rows} {rank′} {count′} {rows′}
     let masks : rows ≡ rows′ = x .listed .rows-are ∙ ap (λ (l : List ℕ). maskOf n (z l)) same-r ∙ sym (y .listed .rows-are) in
     λ i. (ranks i, counts i, masks i, same-r i, same-u i, same-v i)
 
--- an answer is determined by its numbers
-answer-same : (x y : Answer) → numbersOf x ≡ numbersOf y → x ≡ y
-answer-same (NotDone x) (NotDone y) same = ap NotDone (refusal-same x y (λ i. same i .0) (λ i. same i .1))
-answer-same (NotDone x) (Done rank count rows) same = not-done x (λ i. same i .0)
-answer-same (Done rank count rows) (NotDone y) same = let back = sym same in not-done y (λ i. back i .0)
-answer-same (Done rank count rows) (Done rank′ count′ rows′) same = λ i. Done (same i .2) (same i .3) (same i .4)
+-- an answer is what its numbers say
+answer-said : {r u v : List ℕ} (x : Answer)
+    → let s = numbersOf x in Said {Outcome = Outcome} NotDone (λ o. Done (o .0) (o .1) (o .2)) (s .0, s .1, (s .2, s .3, s .4, r, u, v)) x
+answer-said (NotDone x) = said-refused x
+answer-said (Done rank count rows) = record { is = refl }
 
-module _ (p n m d : ℕ) (a r u v r₁ u₁ v₁ r₂ u₂ v₂ : List ℕ) where
-  -- two answers that the promise allows are equal in every number, and so is every buffer at exit
-  pub promised-unique : {number₁ place₁ rank₁ count₁ rows₁ number₂ place₂ rank₂ count₂ rows₂ : ℕ}
-      → Promised p n m d a r u v r₁ u₁ v₁ number₁ place₁ rank₁ count₁ rows₁ → Promised p n m d a r u v r₂ u₂ v₂ number₂ place₂ rank₂ count₂ rows₂
-      → (number₁ ≡ number₂) × (place₁ ≡ place₂) × (rank₁ ≡ rank₂) × (count₁ ≡ count₂) × (rows₁ ≡ rows₂) × (r₁ ≡ r₂) × (u₁ ≡ u₂) × (v₁ ≡ v₂)
-  promised-unique f g =
-      let (numbers, places, same) = answering-unique (told-unique false p n m d (lengths a r u v) (reductionSizes n m d) a)
-      (λ none. done-unique (in-order {determinant = false} none (f .told) .numbers .modulus .prime)) f g in
-      (numbers, places, (λ i. same i .0), (λ i. same i .1), (λ i. same i .2), (λ i. same i .3), (λ i. same i .4), (λ i. same i .5))
-
-  -- so the enums are equal
-  pub answered-unique : (x y : Answer)
-      → Answered p n m d a r u v r₁ u₁ v₁ x → Answered p n m d a r u v r₂ u₂ v₂ y → (x ≡ y) × (r₁ ≡ r₂) × (u₁ ≡ u₂) × (v₁ ≡ v₂)
-  answered-unique x y f g =
-      let (numbers, places, ranks, counts, rows, same-r, same-u, same-v) = promised-unique f g in
-      (answer-same x y (λ i. (numbers i, places i, ranks i, counts i, rows i)), same-r, same-u, same-v)
+-- two answers that the promise allows are equal, and so is every buffer at exit
+pub answered-unique : {p n m d : ℕ} {a r u v r₁ u₁ v₁ r₂ u₂ v₂ : List ℕ} (x y : Answer)
+    → Answered p n m d a r u v r₁ u₁ v₁ x → Answered p n m d a r u v r₂ u₂ v₂ y
+    → _≡_ {A = Answer × List ℕ × List ℕ × List ℕ} (x, r₁, u₁, v₁) (y, r₂, u₂, v₂)
+answered-unique x y f g =
+    let same = answering-unique false done-unique f g in
+    λ i. (said-unique (answer-said x) (answer-said y) same i, same i .2 .3, same i .2 .4, same i .2 .5)
 
 -- a step is called for or not
 counted-unique : (n m : ℕ) (z : ℕ → ℕ) (c c′ : ℕ) → ((c ≡ 0) × NoPair n m z) ⊎ ((c ≡ 1) × Pair n m z)
@@ -92,7 +79,7 @@ counted-unique n m z c c′ (inr (_, pair)) (inl (_, none)) = absurd (pair-exclu
 counted-unique n m z c c′ (inr (e, _)) (inr (e′, _)) = e ∙ sym e′
 
 -- the input determines the count of the single step and its result
-stepped-unique : {p n m w c c′ : ℕ} {a r r′ : List ℕ} → Prime p → SteppedOnce p n m w c a r → SteppedOnce p n m w c′ a r′
+pub stepped-unique : {p n m w c c′ : ℕ} {a r r′ : List ℕ} → Prime p → SteppedOnce p n m w c a r → SteppedOnce p n m w c′ a r′
     → _≡_ {A = ℕ × List ℕ} (c, r) (c′, r′)
 stepped-unique {p} {n} {m} {w} {c} {c′} P x y =
     let f = x .by P (omega (arith, P .two)) in
@@ -101,24 +88,14 @@ stepped-unique {p} {n} {m} {w} {c} {c′} P x y =
     let results = held-unique (by-rows n m w) p (f .held) (g .held) in
     λ i. (counts i, results i)
 
--- its answer is determined by its numbers
-step-answer-same : (x y : StepAnswer) → Single.numbersOf x ≡ Single.numbersOf y → x ≡ y
-step-answer-same (Step.NotDone x) (Step.NotDone y) same = ap Step.NotDone (refusal-same x y (λ i. same i .0) (λ i. same i .1))
-step-answer-same (Step.NotDone x) (Step.Done c) same = not-done x (λ i. same i .0)
-step-answer-same (Step.Done c) (Step.NotDone y) same = let back = sym same in not-done y (λ i. back i .0)
-step-answer-same (Step.Done c) (Step.Done c′) same = λ i. Step.Done (same i .2)
+-- its answer is what its numbers say
+step-answer-said : {r : List ℕ} (x : StepAnswer)
+    → let s = Single.numbersOf x in Said {Outcome = ℕ × List ℕ} Step.NotDone (λ o. Step.Done (o .0)) (s .0, s .1, (s .2, r)) x
+step-answer-said (Step.NotDone x) = said-refused x
+step-answer-said (Step.Done count) = record { is = refl }
 
-module _ (p n m d : ℕ) (a r r₁ r₂ : List ℕ) where
-  -- two answers that the promise allows are equal in every number, and so is the result at exit
-  pub step-promised-unique : {number₁ place₁ count₁ number₂ place₂ count₂ : ℕ}
-      → StepPromised p n m d a r r₁ number₁ place₁ count₁ → StepPromised p n m d a r r₂ number₂ place₂ count₂
-      → (number₁ ≡ number₂) × (place₁ ≡ place₂) × (count₁ ≡ count₂) × (r₁ ≡ r₂)
-  step-promised-unique f g =
-      let (numbers, places, same) = answering-unique (told-unique false p n m d (length a ∷ length r ∷ []) (stepSizes n m d) a)
-      (λ none. stepped-unique (in-order {determinant = false} none (f .told) .numbers .modulus .prime)) f g in
-      (numbers, places, (λ i. same i .0), (λ i. same i .1))
-
-  -- so the enums are equal
-  pub step-answered-unique : (x y : StepAnswer) → StepAnswered p n m d a r r₁ x → StepAnswered p n m d a r r₂ y → (x ≡ y) × (r₁ ≡ r₂)
-  step-answered-unique x y f g =
-      let (numbers, places, counts, results) = step-promised-unique f g in (step-answer-same x y (λ i. (numbers i, places i, counts i)), results)
+-- two answers that the promise allows are equal, and so is the result at exit
+pub step-answered-unique : {p n m d : ℕ} {a r r₁ r₂ : List ℕ} (x y : StepAnswer) → StepAnswered p n m d a r r₁ x → StepAnswered p n m d a r r₂ y
+    → _≡_ {A = StepAnswer × List ℕ} (x, r₁) (y, r₂)
+step-answered-unique x y f g =
+    let same = answering-unique false stepped-unique f g in λ i. (said-unique (step-answer-said x) (step-answer-said y) same i, same i .2 .1)

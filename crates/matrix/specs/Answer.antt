@@ -19,12 +19,16 @@ numbersOf (Done rank count rows) = (0, 0, rank, count, rows)
 abbrev pub lengths : (a r u v : List ℕ) → List ℕ
 lengths a r u v = length a ∷ length r ∷ length u ∷ length v ∷ []
 
+-- three numbers that are returned, and what result, U and V hold at exit
+abbrev pub Outcome : Type 0
+Outcome = ℕ × ℕ × ℕ × List ℕ × List ℕ × List ℕ
+
 -- The promise of the reduction, over the numbers that it returns and what the buffers hold at entry and at exit. No
 -- determinant is wanted.
 abbrev pub Promised : (p n m d : ℕ) (a r u v r′ u′ v′ : List ℕ) (number place rank count rows : ℕ) → Type 0
 Promised p n m d a r u v r′ u′ v′ number place rank count rows =
     Answering (refusalTable false p n m d (lengths a r u v) (reductionSizes n m d) a) number place
-    {Outcome = ℕ × ℕ × ℕ × List ℕ × List ℕ × List ℕ} (rank, count, rows, r′, u′, v′) (0, 0, 0, r, u, v)
+    {Outcome = Outcome} (rank, count, rows, r′, u′, v′) (0, 0, 0, r, u, v)
     (IsDone p n m (d + 1) a r′ u′ v′ rank count rows)
 
 -- the same of an answer, by its numbers

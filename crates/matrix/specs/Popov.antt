@@ -6,7 +6,7 @@ use Rattle.refusals.specs.Number.{numberOf, placeOf}
 use Rattle.refusals.specs.Answering.{Answering}
 use Rattle.refusals.specs.Refused.{refusalTable, reductionSizes}
 use Rattle.finishing.specs.Finishing.{IsPopov}
-use Rattle.matrix.specs.Answer.{lengths}
+use Rattle.matrix.specs.Answer.{lengths, Outcome}
 use Rattle.matrix.specs.declared.popov_form.PopovAnswer.{PopovAnswer}
 use Rattle.matrix.specs.declared.popov_form.PopovAnswer.the-variants.{NotDone, Done}
 
@@ -15,7 +15,7 @@ use Rattle.matrix.specs.declared.popov_form.PopovAnswer.the-variants.{No
 abbrev pub PopovPromised : (p n m d : ℕ) (a r u v r′ u′ v′ : List ℕ) (number place rank first second : ℕ) → Type 0
 PopovPromised p n m d a r u v r′ u′ v′ number place rank first second =
     Answering (refusalTable false p n m d (lengths a r u v) (reductionSizes n m d) a) number place
-    {Outcome = ℕ × ℕ × ℕ × List ℕ × List ℕ × List ℕ} (rank, first, second, r′, u′, v′) (0, 0, 0, r, u, v)
+    {Outcome = Outcome} (rank, first, second, r′, u′, v′) (0, 0, 0, r, u, v)
     (IsPopov p n m (d + 1) a r′ u′ v′ rank first second)
 
 -- the numbers of an answer: its number, its place, the rank and the two counts

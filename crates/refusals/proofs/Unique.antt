@@ -1,11 +1,12 @@
 -- A call has one answer only: the first row of a table that applies is one, and so is what a refusal leaves behind.
-use mathlib.Core.Path.{_≡_, refl, sym, ap₂, _∙_}
+use mathlib.Core.Path.{_≡_, refl, sym, ap, _∙_}
 use mathlib.Core.Bool.{Bool}
 use mathlib.Core.Logic.{inl, inr}
 use mathlib.Core.List.{List, [], _∷_}
 use Prim.Native.Nat.{ℕ, _<_}
 use native.Mathlib.Omega.{arith}
 use lib.ListN.{getD}
+use Rattle.algebra.specs.Prime.{Prime}
 use Rattle.algebra.proofs.Cases.{case-le}
 use Rattle.refusals.specs.Number.{numberOf, placeOf, checkNumber, checkPlace}
 use Rattle.refusals.specs.Answering.{Row, Told, Answering}
@@ -14,6 +15,7 @@ use Rattle.refusals.specs.declared.Refusal.{Refusal}
 use Rattle.refusals.specs.declared.Refusal.the-variants.{Modulus, Shape, Degree, Square, Length, Coefficient}
 use Rattle.refusals.specs.declared.Check.{Check}
 use Rattle.refusals.specs.declared.Check.the-variants.{Fine, Refused}
+use Rattle.refusals.proofs.Answering.{in-order}
 
 -- P holds of one number at most
 abbrev pub One : (ℕ → Type 0) → Type 0
@@ -53,40 +55,35 @@ decides (row ∷ rows) ones k i l j (inl f) (inr g) = absurd (f .0 (g .0))
 decides (row ∷ rows) ones k i l j (inr f) (inl g) = absurd (g .0 (f .0))
 decides (row ∷ rows) ones k i l j (inr f) (inr g) = decides rows (ones .1) k i l j (f .1) (g .1)
 
--- two answers by such a table are equal, if what is done is
-pub answering-unique : {table : List Row} {k i l j : ℕ} {Outcome : Type 0} {x y kept : Outcome} {Done Done′ : Type 0}
-    → Decides table → (k ≡ 0 → Done → Done′ → x ≡ y)
-    → Answering table k i x kept Done → Answering table l j y kept Done′ → (k ≡ l) × (i ≡ j) × (x ≡ y)
-answering-unique {k = k} unique done-same f g =
-    let (numbers, places) = unique _ _ _ _ (f .told) (g .told) in (
-      numbers,
-      places,
-      case-le k 0 (λ le. let none : k ≡ 0 = omega arith in done-same none (f .done none) (g .done (sym numbers ∙ none)))
-          (λ some. f .refused some ∙ sym (g .refused (omega arith))),
-    )
+-- the answer that has a number, a place and an outcome: done where the number is 0, else refused
+abbrev answerAt : {Answer Outcome : Type 0} → (Refusal → Answer) → (Outcome → Answer) → ℕ × ℕ × Outcome → Answer
+answerAt refused done (number, place, outcome) = getD
+    (done outcome ∷ refused Modulus ∷ refused Shape ∷ refused Degree ∷ refused Square ∷ refused (Length place) ∷ refused (Coefficient place) ∷ [])
+    number (done outcome)
 
--- what the checks have said where they gave a number and a place
-abbrev checkAt : (number place : ℕ) → Check
-checkAt number place = getD
-    (Fine ∷ Refused Modulus ∷ Refused Shape ∷ Refused Degree ∷ Refused Square ∷ Refused (Length place) ∷ Refused (Coefficient place) ∷ [])
-    number Fine
+-- x is the answer that its numbers say
+pub record Said {Answer Outcome : Type 0} (refused : Refusal → Answer) (done : Outcome → Answer) (numbers : ℕ × ℕ × Outcome) (x : Answer) : Type 0 where
+  pub is : answerAt refused done numbers ≡ x
 
-check-at : (x : Check) → checkAt (checkNumber x) (checkPlace x) ≡ x
-check-at Fine = refl
-check-at (Refused Modulus) = refl
-check-at (Refused Shape) = refl
-check-at (Refused Degree) = refl
-check-at (Refused Square) = refl
-check-at (Refused (Length k)) = refl
-check-at (Refused (Coefficient i)) = refl
+-- so is a refusal, by its number and its place
+pub said-refused : {Answer Outcome : Type 0} {refused : Refusal → Answer} {done : Outcome → Answer} {outcome : Outcome} (x : Refusal)
+    → Said refused done (numberOf x, placeOf x, outcome) (refused x)
+said-refused Modulus = record { is = refl }
+said-refused Shape = record { is = refl }
+said-refused Degree = record { is = refl }
+said-refused Square = record { is = refl }
+said-refused (Length k) = record { is = refl }
+said-refused (Coefficient i) = record { is = refl }
 
--- so it is determined by them
-check-same : (x y : Check) → checkNumber x ≡ checkNumber y → checkPlace x ≡ checkPlace y → x ≡ y
-check-same x y numbers places = sym (check-at x) ∙ ap₂ checkAt numbers places ∙ check-at y
+-- so an answer is determined by its numbers
+pub said-unique : {Answer Outcome : Type 0} {refused : Refusal → Answer} {done : Outcome → Answer} {s t : ℕ × ℕ × Outcome} {x y : Answer}
+    → Said refused done s x → Said refused done t y → s ≡ t → x ≡ y
+said-unique {refused = refused} {done} f g same = sym (f .is) ∙ ap (answerAt refused done) same ∙ g .is
 
--- and so is a refusal
-pub refusal-same : (x y : Refusal) → numberOf x ≡ numberOf y → placeOf x ≡ placeOf y → x ≡ y
-refusal-same x y numbers places = let same : Refused x ≡ Refused y = check-same (Refused x) (Refused y) numbers places in cc
+-- what the checks say is an answer too
+check-said : (x : Check) → Said {Outcome = Unit} Refused (λ outcome. Fine) (checkNumber x, checkPlace x, tt) x
+check-said Fine = record { is = refl }
+check-said (Refused x) = said-refused x
 
 module _ (determinant : Bool) (p n m d : ℕ) (given wanted a : List ℕ) where
   -- the refusal table allows one number and one place
@@ -97,4 +94,17 @@ module _ (determinant : Bool) (p n m d : ℕ) (given wanted a : List ℕ) where
 
   -- so the checks say one thing only
   pub verdict-unique : (x y : Check) → Verdict determinant p n m d given wanted a x → Verdict determinant p n m d given wanted a y → x ≡ y
-  verdict-unique x y f g = let (numbers, places) = told-unique _ _ _ _ f g in check-same x y numbers places
+  verdict-unique x y f g =
+      let (numbers, places) = told-unique _ _ _ _ f g in said-unique (check-said x) (check-said y) (λ i. (numbers i, places i, tt))
+
+-- two answers by the table are equal in all that is returned and in the buffers, if this is true of what is done
+pub answering-unique : (determinant : Bool) {p n m d : ℕ} {given wanted a : List ℕ} {k i l j : ℕ} {Outcome : Type 0} {x y kept : Outcome}
+    {Done Done′ : Type 0} → (Prime p → Done → Done′ → x ≡ y) → Answering (refusalTable determinant p n m d given wanted a) k i x kept Done
+    → Answering (refusalTable determinant p n m d given wanted a) l j y kept Done′ → _≡_ {A = ℕ × ℕ × Outcome} (k, i, x) (l, j, y)
+answering-unique determinant {p} {n} {m} {d} {given} {wanted} {a} {k} done-same f g =
+    let (numbers, places) = told-unique determinant p n m d given wanted a _ _ _ _ (f .told) (g .told) in
+    let same = case-le k 0
+    (λ le. let none : k ≡ 0 = omega arith in
+    done-same (in-order {determinant = determinant} none (f .told) .numbers .modulus .prime) (f .done none) (g .done (sym numbers ∙ none)))
+    (λ some. f .refused some ∙ sym (g .refused (omega arith))) in
+    λ i. (numbers i, places i, same i)

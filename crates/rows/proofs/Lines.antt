@@ -1,30 +1,14 @@
 -- Rows and columns of an n by n matrix, as cells that follow one another at equal distances.
-use mathlib.Core.Path.{_≡_, sym, ap, subst, fun-ext, _∙_}
-use mathlib.Core.Logic.{_≢_}
+use mathlib.Core.Path.{_≡_, sym, ap, subst, _∙_}
 use mathlib.Core.List.{List}
 use Prim.Native.Nat.{ℕ, _+_, _*_, _≤_, _<_}
 use native.Mathlib.Omega.{arith}
 use lib.ListN.{length}
-use Rattle.buffers.specs.Place.{place, Layout}
+use Rattle.buffers.specs.Place.{spaced, Layout}
 use Rattle.buffers.specs.Added.{CellsAdded}
-use Rattle.buffers.proofs.Place.{by-rows, turned, own-row}
+use Rattle.buffers.proofs.Place.{rows-spaced, columns-spaced, cell-ends, by-rows, own-row, turned}
 use Rattle.lists.proofs.Grid.{line-end}
-use Rattle.rows.specs.Asked.{spaced, LinePair, CellPairs}
-
--- cells at distances of at least their size have no place in common
-pub spaced-apart : {w stride : ℕ} (start : ℕ) → w ≤ stride → (i j t u : ℕ) → j < i → t < w → u < w → spaced start stride j t ≢ spaced start stride i u
-spaced-apart {stride = stride} start wide i j t u lj lt lu same = omega (arith, line-end j i stride lj)
-
--- the cells of a row follow one another at equal distances, and so do those of a column
-pub rows-spaced : (m w : ℕ) → (λ i. spaced (i * (m * w)) w) ≡ place m w
-rows-spaced m w = fun-ext (λ i. fun-ext (λ j. fun-ext (λ t. omega arith)))
-
-pub columns-spaced : (n w : ℕ) → _≡_ {A = ℕ → ℕ → ℕ → ℕ} (λ x. spaced (x * w) (n * w)) (λ x i. place n w i x)
-columns-spaced n w = fun-ext (λ x. fun-ext (λ i. fun-ext (λ t. omega arith)))
-
--- row i ends within an n by n matrix, and the cell of column x within its row
-pub cell-ends : {n i x : ℕ} (w : ℕ) → i < n → x < n → (i * (n * w) + n * w ≤ n * (n * w)) × (x * w + w ≤ n * w)
-cell-ends {n} {i} {x} w li lx = (line-end i n (n * w) li, line-end x n w lx)
+use Rattle.rows.specs.Asked.{LinePair, CellPairs}
 
 -- where the two end, as rows of the matrix and as cells of a row
 pub line-ends : {p reciprocal c e n w top x y : ℕ} {from : ℕ → ℕ → ℕ} {b spare : List ℕ} → LinePair p reciprocal c e n w top x y from b spare

@@ -7,11 +7,7 @@ use lib.ListN.{length, getD}
 use Rattle.lists.specs.Part.{part}
 use Rattle.residues.specs.Modulus.{Ready}
 use Rattle.poly.specs.Polynomial.{Coefficients}
-use Rattle.buffers.specs.Place.{inRow, place}
-
--- cells that follow one another at equal distances, the first at `start`: the place of the coefficient of degree t in cell i
-abbrev pub spaced : ℕ → ℕ → ℕ → ℕ → ℕ
-spaced start stride i t = start + i * stride + t
+use Rattle.buffers.specs.Place.{inRow, place, spaced}
 
 -- c·x^e, by which cells of w places are multiplied that have no term from degree `top` on, so that the multiples fit such cells
 pub record Multiplier (p reciprocal c e w top : ℕ) : Type 0 where

@@ -2,10 +2,10 @@
 ghost use mathlib.Core.Path.{_≡_};
 ghost use lib.ListN.{take};
 ghost use Rattle.lists.specs.Part.{part};
-ghost use Rattle.buffers.specs.Place.{inRow, place};
+ghost use Rattle.buffers.specs.Place.{inRow, place, spaced};
 ghost use Rattle.buffers.specs.Added.{CellsAdded, CellAdded, RowAdded, ColumnAdded};
 ghost use Rattle.buffers.specs.Diagonal.{Diagonal};
-ghost use Rattle.rows.specs.Asked.{spaced, Aside, RowPair, RowsInBuffer, CellPair, CellPairs, LinePair, Square};
+ghost use Rattle.rows.specs.Asked.{Aside, RowPair, RowsInBuffer, CellPair, CellPairs, LinePair, Square};
 use residues::Modulus;
 use residues::Residue;
 

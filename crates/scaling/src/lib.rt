@@ -1,6 +1,6 @@
 // A row or a column is multiplied by a residue, in place.
 ghost use Prim.Native.Nat.{_*_};
-ghost use Rattle.rows.specs.Asked.{spaced};
+ghost use Rattle.buffers.specs.Place.{spaced};
 ghost use Rattle.buffers.specs.Scaled.{CellsScaled, CellScaled, RowScaled, ColumnScaled};
 ghost use Rattle.scaling.specs.Asked.{PartToScale, CellsToScale, ColumnToScale};
 use poly::polynomial;

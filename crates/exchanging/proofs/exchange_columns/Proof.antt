@@ -5,9 +5,8 @@ use Prim.Native.Nat.{ℕ, _+_, _*_, _-_, _≤_, _<_}
 use native.Mathlib.Nat as N
 use Rattle.buffers.specs.Place.{place, Outside}
 use Rattle.buffers.specs.Exchanged.{CellsExchanged}
-use Rattle.buffers.proofs.Place.{place-own}
+use Rattle.buffers.proofs.Place.{place-own, cell-ends}
 use Rattle.exchanging.specs.Asked.{TwoParts, TwoColumns}
-use Rattle.rows.proofs.Lines.{cell-ends}
 use Rattle.exchanging.proofs.Pairs.{none-exchanged, next-exchanged}
 use Rattle.exchanging.proofs.exchange_columns.Statement.{statement}
 use Rattle.exchanging.proofs.exchange_columns.Tie as tie

@@ -4,10 +4,11 @@ use mathlib.Core.Logic.{_≢_}
 use mathlib.Core.List.{List}
 use Prim.Native.Nat.{ℕ, _+_, _*_, _-_, _≤_, _<_}
 use lib.ListN.{length, getD}
+use Rattle.buffers.specs.Place.{spaced}
 use Rattle.buffers.specs.Added.{CellAdded}
-use Rattle.rows.specs.Asked.{spaced, CellPair, CellPairs}
+use Rattle.buffers.proofs.Place.{spaced-apart}
+use Rattle.rows.specs.Asked.{CellPair, CellPairs}
 use Rattle.rows.proofs.Written.{writing-start, writing-end}
-use Rattle.rows.proofs.Lines.{spaced-apart}
 use Rattle.rows.proofs.Cells.{part-residues, Adding, adding-turn, next-residues}
 use Rattle.rows.proofs.add_cells.Statement.{statement}
 use Rattle.rows.proofs.add_cells.Tie as tie

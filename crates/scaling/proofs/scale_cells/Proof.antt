@@ -4,9 +4,9 @@ use mathlib.Core.Logic.{_≢_}
 use mathlib.Core.List.{List}
 use Prim.Native.Nat.{ℕ, _+_, _*_, _-_, _%_, _<_}
 use lib.ListN.{getD}
+use Rattle.buffers.specs.Place.{spaced}
 use Rattle.buffers.specs.Scaled.{CellScaled}
-use Rattle.rows.specs.Asked.{spaced}
-use Rattle.rows.proofs.Lines.{spaced-apart}
+use Rattle.buffers.proofs.Place.{spaced-apart}
 use Rattle.rows.proofs.Written.{next-kept, Writing, writing-start, writing-end, writing-turn}
 use Rattle.scaling.specs.Asked.{PartToScale, CellsToScale}
 use Rattle.scaling.proofs.scale_cells.Statement.{statement}

@@ -3,9 +3,9 @@ use native.Mathlib.Omega.{arith}
 use mathlib.Core.Path.{subst}
 use mathlib.Core.List.{List}
 use Prim.Native.Nat.{ℕ, _*_}
+use Rattle.buffers.specs.Place.{spaced}
 use Rattle.buffers.specs.Scaled.{CellsScaled, ColumnScaled}
-use Rattle.rows.specs.Asked.{spaced}
-use Rattle.rows.proofs.Lines.{columns-spaced, cell-ends}
+use Rattle.buffers.proofs.Place.{columns-spaced, cell-ends}
 use Rattle.scaling.specs.Asked.{CellsToScale, ColumnToScale}
 use Rattle.scaling.proofs.scale_column.Statement.{statement}
 use Rattle.scaling.proofs.scale_column.Tie as tie

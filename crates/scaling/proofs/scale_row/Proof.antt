@@ -4,9 +4,9 @@ use mathlib.Core.Path.{subst}
 use mathlib.Core.List.{List}
 use Prim.Native.Nat.{ℕ, _*_}
 use Rattle.lists.proofs.Grid.{line-end}
+use Rattle.buffers.specs.Place.{spaced}
 use Rattle.buffers.specs.Scaled.{CellsScaled, RowScaled}
-use Rattle.rows.specs.Asked.{spaced}
-use Rattle.rows.proofs.Lines.{rows-spaced}
+use Rattle.buffers.proofs.Place.{rows-spaced}
 use Rattle.scaling.specs.Asked.{PartToScale, CellsToScale}
 use Rattle.scaling.proofs.scale_row.Statement.{statement}
 use Rattle.scaling.proofs.scale_row.Tie as tie
