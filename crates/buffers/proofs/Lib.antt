@@ -6,3 +6,4 @@ pub mod Scaled
 pub mod Exchanged
 pub mod Diagonal
 pub mod Bounds
+pub mod Writing

@@ -18,7 +18,7 @@ use Rattle.poly.specs.Reading.{Holds}
 use Rattle.buffers.specs.Held.{Held}
 use Rattle.buffers.specs.Written.{CellsWritten}
 use Rattle.buffers.proofs.Place.{block-own, by-rows}
-use Rattle.rows.proofs.Written.{none-written, cell-changed, next-written}
+use Rattle.buffers.proofs.Writing.{none-written, cell-changed, next-written}
 use Rattle.parting.specs.Parting.{CellAsked, CellFilled, PartAsked, Parted}
 
 -- m cells of a column are as long as m cells of a row

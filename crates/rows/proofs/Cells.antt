@@ -18,7 +18,7 @@ use Rattle.arithmetic.proofs.Asked.{with-room}
 use Rattle.buffers.specs.Where.{whereTrue}
 use Rattle.buffers.specs.Added.{raised, CellAdded}
 use Rattle.rows.specs.Asked.{Multiplier, Short}
-use Rattle.rows.proofs.Written.{written-as, cell-changed, next-kept, Writing, writing-turn}
+use Rattle.buffers.proofs.Writing.{written-as, cell-changed, next-kept, Writing, writing-turn}
 
 -- the residues of a part
 pub part-residues : (p a n : ℕ) (l : List ℕ) → a + n ≤ length l → ((i : ℕ) → i < n → getD l (a + i) 0 < p) → Coefficients p (part a n l)

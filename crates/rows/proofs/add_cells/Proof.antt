@@ -8,7 +8,7 @@ use Rattle.buffers.specs.Place.{spaced}
 use Rattle.buffers.specs.Added.{CellAdded}
 use Rattle.buffers.proofs.Place.{spaced-apart}
 use Rattle.rows.specs.Asked.{CellPair, CellPairs}
-use Rattle.rows.proofs.Written.{writing-start, writing-end}
+use Rattle.buffers.proofs.Writing.{writing-start, writing-end}
 use Rattle.rows.proofs.Cells.{part-residues, Adding, adding-turn, next-residues}
 use Rattle.rows.proofs.add_cells.Statement.{statement}
 use Rattle.rows.proofs.add_cells.Tie as tie

@@ -14,7 +14,7 @@ use Rattle.buffers.specs.Where.{whereTrue}
 use Rattle.buffers.specs.Added.{CellsAdded, RowAdded}
 use Rattle.lists.proofs.Grid.{within}
 use Rattle.rows.specs.Asked.{RowPair, RowsInBuffer}
-use Rattle.rows.proofs.Written.{written-as, part-written}
+use Rattle.buffers.proofs.Writing.{written-as, part-written}
 use Rattle.rows.proofs.Cells.{part-residues}
 use Rattle.rows.proofs.add_row.Statement.{statement}
 use Rattle.rows.proofs.add_row.Tie as tie

@@ -11,7 +11,7 @@ use Rattle.buffers.specs.Place.{inRow}
 use Rattle.lists.proofs.Grid.{line-end}
 use Rattle.rows.specs.Asked.{RowPair}
 use Rattle.rows.proofs.Cells.{part-residues, short-cell, shifted-part, cell-lent, cell-back, Adding, adding-turn, next-residues}
-use Rattle.rows.proofs.Written.{writing-start, writing-end}
+use Rattle.buffers.proofs.Writing.{writing-start, writing-end}
 use Rattle.rows.proofs.add_to_row.Statement.{statement}
 use Rattle.rows.proofs.add_to_row.Tie as tie
 

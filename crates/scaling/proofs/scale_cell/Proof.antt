@@ -11,7 +11,7 @@ use Rattle.poly.specs.Polynomial.{height}
 use Rattle.arithmetic.specs.Operations.{scaledBy}
 use Rattle.poly.proofs.Ending.{ends-height}
 use Rattle.buffers.specs.Scaled.{CellScaled}
-use Rattle.rows.proofs.Written.{cell-changed, rest-kept}
+use Rattle.buffers.proofs.Writing.{cell-changed, rest-kept}
 use Rattle.scaling.proofs.scale_cell.Statement.{statement}
 use Rattle.scaling.proofs.scale_cell.Tie as tie
 

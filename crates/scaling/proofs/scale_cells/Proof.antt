@@ -7,7 +7,7 @@ use lib.ListN.{getD}
 use Rattle.buffers.specs.Place.{spaced}
 use Rattle.buffers.specs.Scaled.{CellScaled}
 use Rattle.buffers.proofs.Place.{spaced-apart}
-use Rattle.rows.proofs.Written.{next-kept, Writing, writing-start, writing-end, writing-turn}
+use Rattle.buffers.proofs.Writing.{next-kept, Writing, writing-start, writing-end, writing-turn}
 use Rattle.scaling.specs.Asked.{PartToScale, CellsToScale}
 use Rattle.scaling.proofs.scale_cells.Statement.{statement}
 use Rattle.scaling.proofs.scale_cells.Tie as tie
