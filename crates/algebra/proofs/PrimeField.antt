@@ -22,7 +22,8 @@ module _ (p : ℕ) (P : Prime p) where
   step a y pos l h = ap (λ x. x % p) e ∙ N.mul-add-mod-self-left p ((a - 1) * y) (p % a * y) ∙ h
     where
       e : a * ((p - p / a) * y) ≡ p * ((a - 1) * y) + p % a * y
-      e = sym (N.mul-assoc a (p - p / a) y) ∙ ap (λ x. x * y) (complement p a pos) ∙ N.add-mul (p * (a - 1)) (p % a) y ∙ ap (λ x. x + p % a * y) (N.mul-assoc p (a - 1) y)
+      e = sym (N.mul-assoc a (p - p / a) y) ∙ ap (λ x. x * y) (complement p a pos) ∙ N.add-mul (p * (a - 1)) (p % a) y
+          ∙ ap (λ x. x + p % a * y) (N.mul-assoc p (a - 1) y)
 
   -- every a from 1 to p - 1 has an inverse; n counts down with a, p % a, …
   inverse : (n a : ℕ) → a ≤ n → 0 < a → a < p → (x : ℕ) × (a * x % p ≡ 1)

@@ -55,7 +55,8 @@ module _ (a b : List ℕ) (k : ℕ) where
   unfolding productAt
   summing-end i sum s h =
       s .is
-      ∙ sym (total-more i (suc k) term (omega (arith, s .to)) (λ j l m. ap (λ (x : ℕ). x * getD b (k - j) 0) (getD-past a j (omega arith)) ∙ zero-mul (getD b (k - j) 0)))
+      ∙ sym (total-more i (suc k) term (omega (arith, s .to))
+      (λ j l m. ap (λ (x : ℕ). x * getD b (k - j) 0) (getD-past a j (omega arith)) ∙ zero-mul (getD b (k - j) 0)))
 
   -- where all places of a and of b are spent there is no term
   pub product-past : length a + length b ≤ k + 1 → productAt a b k ≡ 0
@@ -138,7 +139,11 @@ module _ (p reciprocal c e : ℕ) (a b : List ℕ) (pre : Multiple p reciprocal 
       ready = pre .ready;
       factor = pre .factor;
       same = rw (add-sub-cancel-left e n) (length-part e n a fits ∙ sym (length-take-le n b within));
-      source = record { below = λ i h. let l : i < n = omega (arith, length-take-le n b within) in rw (getD-take n b i 0 l) (pre .source .below i (omega (arith, within))) };
+      source = record {
+        below = λ i h.
+            let l : i < n = omega (arith, length-take-le n b within) in
+            rw (getD-take n b i 0 l) (pre .source .below i (omega (arith, within)));
+      };
     }
 
     pub part-back : (new : List ℕ) → new ≡ imap (plusTimes p c (take n b)) (take (e + n - e) (drop e a))

@@ -35,7 +35,8 @@ module _ (p : ℕ) (P : Prime p) where
       source : (k : ℕ) → series (K .ring) .mul (mono (K .ring) c e) g k .val ≡ c .val * shifted e b k % p
       source k = elim (decLe e k) [
         | yes from ↦
-            simp (le-leb e k from) (ap (λ (x : Zp p). x .val) (mono-mul-high (K .ring) c e g k from) ∙ field-mul p P c _ ∙ ap (λ (x : ℕ). c .val * x % p) (sym (hg .at (k - e))))
+            simp (le-leb e k from)
+            (ap (λ (x : Zp p). x .val) (mono-mul-high (K .ring) c e g k from) ∙ field-mul p P c _ ∙ ap (λ (x : ℕ). c .val * x % p) (sym (hg .at (k - e))))
         | no below ↦
             (let low : k < e = omega arith in
             simp (lt-leb e k low, N.mul-zero, N.zero-mod) (ap (λ (x : Zp p). x .val) (mono-mul-low (K .ring) c e g k low) ∙ field-zero p P))
@@ -86,7 +87,10 @@ module _ (p : ℕ) (P : Prime p) where
   -- c times a
   pub holds-scaled : (c : Zp p) (a : List ℕ) (f : ℕ → Zp p) → Holds p a f → Holds p (scaledBy p (c .val) a) (series (K .ring) .mul (const (K .ring) c) f)
   unfolding scaledBy
-  holds-scaled c a f hf = record { at = λ k. at k ∙ sym (ap (λ (x : Zp p). x .val) (const-mul-at (K .ring) c f k) ∙ field-mul p P c (f k) ∙ ap (λ (x : ℕ). c .val * x % p) (sym (hf .at k))) }
+  holds-scaled c a f hf = record {
+    at = λ k. at k
+        ∙ sym (ap (λ (x : Zp p). x .val) (const-mul-at (K .ring) c f k) ∙ field-mul p P c (f k) ∙ ap (λ (x : ℕ). c .val * x % p) (sym (hf .at k)));
+  }
     where
       at : (k : ℕ) → getD (scaledBy p (c .val) a) k 0 ≡ c .val * getD a k 0 % p
       at k = getD-imap-every _ a k (λ _. simp (N.mul-zero, N.zero-mod))

@@ -22,14 +22,15 @@ pow-same c = ap (λ x. x % 2) (N.div-self (pow-pos c))
 pow-other : (c d : ℕ) → d ≢ c → 2 ^ c / 2 ^ d % 2 ≡ 0
 pow-other c d ne = case-le (suc c) d (λ l. ap (λ x. x % 2) (N.div-eq-of-lt (pow-lt l))) (λ l.
     let e : c ≡ d + suc (c - d - 1) = omega arith in
-    ap (λ x. 2 ^ x / 2 ^ d % 2) e ∙ ap (λ x. x / 2 ^ d % 2) (pow-add 2 d (suc (c - d - 1))) ∙ ap (λ x. x % 2) (N.mul-div-right (2 ^ suc (c - d - 1)) (pow-pos d))
-    ∙ ap (λ x. x % 2) (N.pow-succ' 2 (c - d - 1)) ∙ N.mul-mod-right 2 (2 ^ (c - d - 1)))
+    ap (λ x. 2 ^ x / 2 ^ d % 2) e ∙ ap (λ x. x / 2 ^ d % 2) (pow-add 2 d (suc (c - d - 1)))
+    ∙ ap (λ x. x % 2) (N.mul-div-right (2 ^ suc (c - d - 1)) (pow-pos d)) ∙ ap (λ x. x % 2) (N.pow-succ' 2 (c - d - 1)) ∙ N.mul-mod-right 2 (2 ^ (c - d - 1)))
 
 or-bit : (a b d : ℕ) → bitOf (bitOr a b) d ≡ bitOr (bitOf a d) (bitOf b d)
 or-bit a b d = ap (λ x. x % 2) (or-shr a b d) ∙ or-mod (a / 2 ^ d) (b / 2 ^ d) 1
 
 or-one : (x : ℕ) → x < 2 → bitOr x 1 ≡ 1
-or-one x l = case-le 1 x (λ h. let e : x ≡ 1 = omega arith in ap (λ y. bitOr y 1) e ∙ or-self 1) (λ h. let e : x ≡ 0 = omega arith in ap (λ y. bitOr y 1) e ∙ or-zero-l 1)
+or-one x l = case-le 1 x (λ h. let e : x ≡ 1 = omega arith in ap (λ y. bitOr y 1) e ∙ or-self 1)
+    (λ h. let e : x ≡ 0 = omega arith in ap (λ y. bitOr y 1) e ∙ or-zero-l 1)
 
 -- a set that a column is put into
 module _ (a x : ℕ) (some : 0 < x) (few : x ≤ 8) where

@@ -49,7 +49,8 @@ module _ (n m : ℕ) (v : ℕ → ℕ) (indices degrees : List ℕ) (p : Pivots 
       b-is : getD degrees (x .b) 0 ≡ height m (v (x .b))
       b-is = p .row (x .b) (x .fits) .degree-is
 
-      go : ((getD degrees (x .b) 0 < getD degrees (x .a) 0) × (l ≡ x .a) × (k ≡ x .b)) ⊎ ((getD degrees (x .a) 0 ≤ getD degrees (x .b) 0) × (l ≡ x .b) × (k ≡ x .a))
+      go : ((getD degrees (x .b) 0 < getD degrees (x .a) 0) × (l ≡ x .a) × (k ≡ x .b))
+          ⊎ ((getD degrees (x .a) 0 ≤ getD degrees (x .b) 0) × (l ≡ x .b) × (k ≡ x .a))
           → (d : Dec (height m (v (x .b)) < height m (v (x .a)))) → ordered-by d (x .a) (x .b) ≡ (l, k)
       go (inl (h, e, q)) (yes _) = ap₂ (λ (s t : ℕ). (s, t)) (sym e) (sym q)
       go (inl (h, e, q)) (no z) = absurd (z (omega (arith, a-is, b-is)))

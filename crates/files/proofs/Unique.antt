@@ -13,9 +13,9 @@ line-one first (read l s) i j f g = absurd f
 line-one first (wrong c) i j f g = f ∙ sym g
 
 table-unique : (size : ℕ) (head : Lines) → Decides (tableBy size head)
-table-unique size head =
+table-unique size head = let body = bodyLines head in
     decides (tableBy size head)
-    (zero-one, (line-one 1 head, (zero-one, (zero-one, (zero-one, (line-one 5 (bodyLines head), (high-one (headModulus head) (numbersOf (bodyLines head)), tt)))))))
+    (zero-one, (line-one 1 head, (zero-one, (zero-one, (zero-one, (line-one 5 body, (high-one (headModulus head) (numbersOf body), tt)))))))
 
 -- the printer's table allows one number and one place for each text
 pub printer-unique : (s : List ℕ) → Decides (printerTable s)

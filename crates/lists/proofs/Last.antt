@@ -48,7 +48,8 @@ last-is (suc n) f = go (last-is n f) (ℕ-discrete (f (suc n - 1)) 0)
       zeros = λ i l h. elim (decLe n i) [ yes b ↦ (let s : i ≡ suc n - 1 = omega arith in ap f s ∙ z) | no b ↦ before .zeros i l (omega arith) ];
       top = before .top;
     })
-    go before (no ne) = subst (IsLast (suc n) f) (sym (last-here (suc n) f (omega arith) ne)) (record { within = omega arith; zeros = λ i l h. absurd (omega arith); top = λ h. ne })
+    go before (no ne) = subst (IsLast (suc n) f) (sym (last-here (suc n) f (omega arith) ne))
+        (record { within = omega arith; zeros = λ i l h. absurd (omega arith); top = λ h. ne })
 
 -- and nothing else is so
 pub last-unique : (n : ℕ) (f : ℕ → ℕ) (r : ℕ) → IsLast n f r → lastNonzero n f ≡ r

@@ -112,7 +112,8 @@ module _ {m w wide k : ℕ} {r next₀ column₀ : List ℕ} (asked : PartAsked 
       pub next-asked : CellAsked (s * ((m - 1) * w)) ((m - 1) * w) (take (i * (m * w) + (m - 1) * w - i * (m * w)) (drop (i * (m * w)) r)) next
       next-asked = rw is (fill-asked kept start r (now .next-filled) more (omega (arith, row-parts s more)) (omega arith) (asked .next-size))
 
-      pub last-asked : CellAsked (s * wide) wide (take (i * (m * w) + (m - 1) * w + w - (i * (m * w) + (m - 1) * w)) (drop (i * (m * w) + (m - 1) * w) r)) column
+      pub last-asked : CellAsked (s * wide) wide
+          (take (i * (m * w) + (m - 1) * w + w - (i * (m * w) + (m - 1) * w)) (drop (i * (m * w) + (m - 1) * w) r)) column
       last-asked = rw is (fill-asked w (λ j. start j + kept) r (now .column-filled) more (omega (arith, row-parts s more)) (asked .widened)
           (asked .column-size ∙ one-column m wide))
 

@@ -18,10 +18,9 @@ found-start w n degrees = record { reached = omega arith; least = refl }
 
 pub found-on : (w n : ℕ) (degrees : List ℕ) (x i y : ℕ) → Found w n degrees x i → i < n → y ≡ min x (getD degrees i 0 - 1) → Found w n degrees y (i + 1)
 unfolding leastDegree
-found-on w n degrees x i y found more is = record { reached = omega arith; least = is ∙ ap (λ (z : ℕ). min z (getD degrees i 0 - 1)) (found .least) ∙ ap (λ (k : ℕ). leastDegree w k degrees) next }
-  where
-    next : suc i ≡ i + 1
-    next = omega arith
+found-on w n degrees x i y found more is =
+    let next : suc i ≡ i + 1 = omega arith in
+    record { reached = omega arith; least = is ∙ ap (λ (z : ℕ). min z (getD degrees i 0 - 1)) (found .least) ∙ ap (λ (k : ℕ). leastDegree w k degrees) next }
 
 pub found-end : (w n : ℕ) (degrees : List ℕ) (x i : ℕ) → Found w n degrees x i → n ≤ i → x ≡ leastDegree w n degrees
 found-end w n degrees x i found all = let e : i ≡ n = omega (arith, found .reached) in rw e at (found .least)

@@ -38,7 +38,10 @@ gathering-turn l bits i g h =
     let in-x = and-le-r bits x in
     record {
       within = omega arith;
-      tells = ((λ z. below-more (λ j. getD l j 0 ≡ 0) i (g .tells .0 (omega arith)) (omega arith)), (λ a. ap₂ bitOr (g .tells .1 (λ j k. a j (omega arith))) (a i (omega arith))));
+      tells = (
+        λ z. below-more (λ j. getD l j 0 ≡ 0) i (g .tells .0 (omega arith)) (omega arith),
+        λ a. ap₂ bitOr (g .tells .1 (λ j k. a j (omega arith))) (a i (omega arith)),
+      );
     }
 
 -- all that is not zero stands before n

@@ -20,6 +20,7 @@ pub product-refused : (p rounds : ℕ) (a b out : List ℕ)
     → (Accepted p × (length a ≤ 65536) × (length b ≤ 65536) × (length a + length b ≤ length out + 1) → ⊥) → Multiplied p rounds a b out out false
 product-refused p rounds a b out h = record { taken = says-no h; done = λ t. absurd (h (says-no h .0 t)); refused = λ _. refl }
 
-pub product-done : (p rounds : ℕ) (a b out : List ℕ) {out′ : List ℕ} → Accepted p × (length a ≤ 65536) × (length b ≤ 65536) × (length a + length b ≤ length out + 1)
+pub product-done : (p rounds : ℕ) (a b out : List ℕ) {out′ : List ℕ}
+    → Accepted p × (length a ≤ 65536) × (length b ≤ 65536) × (length a + length b ≤ length out + 1)
     → out′ ≡ repeated rounds (productOf p a b) out → Multiplied p rounds a b out out′ true
 product-done p rounds a b out t s = record { taken = says-yes t; done = λ _. s; refused = λ e. absurd (true-false e) }

@@ -13,7 +13,9 @@ use mir.Val.{Fits, SFits, toZ, ofZ}
 -- a signed number that is not below 0 may be taken as an unsigned one
 pub not-negative : (z : ℤ) → SFits w64 z → ltZ (toZ w64 (ofZ w64 z)) (pos 0) ≡ false
     → T (nonNeg (toZ w64 (ofZ w64 z))) × Fits w64 (natAbs (toZ w64 (ofZ w64 z)))
-not-negative z fits h = subst (λ (y : ℤ). T (nonNeg y) × Fits w64 (natAbs y)) (sym (toZ-ofZ fits)) (go z fits (subst (λ (y : ℤ). ltZ y (pos 0) ≡ false) (toZ-ofZ fits) h))
+not-negative z fits h =
+    subst (λ (y : ℤ). T (nonNeg y) × Fits w64 (natAbs y)) (sym (toZ-ofZ fits))
+    (go z fits (subst (λ (y : ℤ). ltZ y (pos 0) ≡ false) (toZ-ofZ fits) h))
   where
     go : (y : ℤ) → SFits w64 y → ltZ y (pos 0) ≡ false → T (nonNeg y) × Fits w64 (natAbs y)
     go (pos n) f h = (tt, record { fits = omega (arith, f .sfits) })

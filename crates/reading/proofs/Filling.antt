@@ -57,5 +57,6 @@ module _ (s : List ℕ) (at count : ℕ) where
                 size = length-set room k v ∙ r .size;
                 to = omega arith;
                 inside = omega (arith, mark-inside);
-                same = r .same ∙ ap (prefixed (take k room)) here ∙ sym (prefixed-append (take k room) (v ∷ []) others) ∙ ap (λ (l : List ℕ). prefixed l others) more;
+                same = r .same ∙ ap (prefixed (take k room)) here ∙ sym (prefixed-append (take k room) (v ∷ []) others)
+                    ∙ ap (λ (l : List ℕ). prefixed l others) more;
               }

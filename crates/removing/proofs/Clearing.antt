@@ -116,7 +116,8 @@ module _ {p reciprocal n m w : ℕ} {r u v spare indices degrees : List ℕ} (as
       by = λ P rank A t s.
           let y = x .reached P rank A t s in
           let none : NoRemoval n (excesses (zp-field p P) m w (y .t′ .R)) = λ a j l la.
-          sym (excess-held p P n m w (asked .columns) (y .standing .holding .R) (x .lists .pivots) a j la (omega arith)) ∙ x .before .none a j l (omega arith) in
+          sym (excess-held p P n m w (asked .columns) (y .standing .holding .R) (x .lists .pivots) a j la (omega arith))
+          ∙ x .before .none a j l (omega arith) in
           record { t′ = y .t′; runs = rw N.add-zero at (y .onward 0 (y .t′) (halt none)); standing = y .standing };
     }
 

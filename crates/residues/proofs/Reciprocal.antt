@@ -1,7 +1,8 @@
 -- A division by p as two products (Barrett): x · ⌊2^32 / p⌋ / 2^32 is ⌊x / p⌋ or one less.
 use mathlib.Core.Path.{_≡_, sym, ap, _∙_}
 use Prim.Native.Nat.{ℕ, _^_, _+_, _*_, _-_, _/_, _%_, _≤_, _<_}
-use native.Mathlib.Nat.{div-add-mod', mod-lt, add-mul, mul-add, mul-assoc, mul-right-comm, mul-le-mul, le-of-lt, mod-eq-of-lt, mul-add-mod-self-right, mod-eq-sub-mod, div-le-self}
+use native.Mathlib.Nat.{div-add-mod', mod-lt, add-mul, mul-add, mul-assoc, mul-right-comm, mul-le-mul, le-of-lt}
+use native.Mathlib.Nat.{mod-eq-of-lt, mul-add-mod-self-right, mod-eq-sub-mod, div-le-self}
 use native.Mathlib.Omega.{arith}
 use Rattle.residues.specs.Modulus.{Ready}
 

@@ -26,12 +26,12 @@ pub listing-start : (z : ℕ → ℕ) → Listing z 0 0 1 0
 unfolding total
 listing-start z = record { listed = record { rank-is = refl; rows-are = refl }; bit-is = refl; rank-most = omega arith; rows-most = omega arith }
 
-module _ (z : ℕ → ℕ) (rank rows bit i : ℕ) (h : Listing z rank rows bit i) where
+module _ {z : ℕ → ℕ} {rank rows bit i : ℕ} (h : Listing z rank rows bit i) where
   pub bit-few : i < 8 → bit < 256
   bit-few few = omega (arith, h .bit-is, pow-lt {j = 8} few)
 
   -- row i comes to the list, or not
-  module _ (s : ℕ) (is : s ≡ sign (z i)) where
+  module _ {s : ℕ} (is : s ≡ sign (z i)) where
     pub sign-few : s ≤ 1
     sign-few = omega (arith, is, sign-most (z i))
 

@@ -93,8 +93,8 @@ module _ (p reciprocal m w l k : ℕ) (r indices degrees : List ℕ) (asked : Pl
       within = l-most;
       short = record {
         zero = λ j t lj from to.
-            added .written j t lj to
-            ∙ simp (le-leb e t (omega (arith, exponent)), l-short .zero j t lj from to, k-short .zero j (t - e) lj (omega (arith, exponent)) (omega arith), mul-zero, zero-mod);
+            let above : e ≤ t = omega (arith, exponent) in added .written j t lj to
+            ∙ simp (le-leb e t above, l-short .zero j t lj from to, k-short .zero j (t - e) lj (omega (arith, exponent)) (omega arith), mul-zero, zero-mod);
       };
       index-room = asked .l-pivot .index-room;
       degree-room = asked .l-pivot .degree-room;

@@ -127,7 +127,8 @@ module _ (p : ℕ) (P : Prime p) where
 
         factor-is : {e c f : ℕ} → Factor p m w l k r indices degrees e c f
             → Divided p (leading K m w (M l) .val) (leading K m w (M k) .val) (height m (value K m w (M l)) - height m (value K m w (M k))) e c f
-        factor-is g = rw (leading-is l (x .l-fits) (clash-first (x .clash)), leading-is k (x .k-fits) (clash-second (x .clash)), ← height-is l (x .l-fits), ← height-is k (x .k-fits)) g
+        factor-is g = rw (leading-is l (x .l-fits) (clash-first (x .clash)), leading-is k (x .k-fits) (clash-second (x .clash)))
+            (rw (← height-is l (x .l-fits), ← height-is k (x .k-fits)) g)
 
         -- another matrix that follows, where nothing falls outside
         module _ {e c f : ℕ} (g : Factor p m w l k r indices degrees e c f) where

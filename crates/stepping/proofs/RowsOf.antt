@@ -156,6 +156,8 @@ module _ (p n m w f e l k : ℕ) (r r′ : List ℕ) (size : length r ≡ n * (m
         degree-is = ap (λ (t : List ℕ). getD t l 0) (new .degrees-are) ∙ getD-set-same degrees l _ 0 (omega (arith, lists .degree-room));
       })
       go i li (no ne) = record {
-        index-is = ap (λ (t : List ℕ). getD t i 0) (new .indices-are) ∙ getD-set-other indices l i _ 0 ne ∙ lists .pivots .row i li .index-is ∙ ap (λ (t : List ℕ). index m (valueOf m w t)) (sym (other-row i li ne));
-        degree-is = ap (λ (t : List ℕ). getD t i 0) (new .degrees-are) ∙ getD-set-other degrees l i _ 0 ne ∙ lists .pivots .row i li .degree-is ∙ ap (λ (t : List ℕ). height m (valueOf m w t)) (sym (other-row i li ne));
+        index-is = ap (λ (t : List ℕ). getD t i 0) (new .indices-are) ∙ getD-set-other indices l i _ 0 ne ∙ lists .pivots .row i li .index-is
+            ∙ ap (λ (t : List ℕ). index m (valueOf m w t)) (sym (other-row i li ne));
+        degree-is = ap (λ (t : List ℕ). getD t i 0) (new .degrees-are) ∙ getD-set-other degrees l i _ 0 ne ∙ lists .pivots .row i li .degree-is
+            ∙ ap (λ (t : List ℕ). height m (valueOf m w t)) (sym (other-row i li ne));
       }

@@ -36,7 +36,8 @@ module _ (p : ℕ) (P : Prime p) where
       less = omega arith
 
       go : (d : Dec (f n ≡ K .ring .𝟘)) → top K n f ≡ lastNonzero n g → (elim d as (λ _. ℕ) [ yes _ ↦ top K n f | no _ ↦ suc n ]) ≡ lastNonzero (suc n) g
-      go (yes z) rec = rec ∙ sym (last-zero (suc n) g (omega arith) (ap g less ∙ h n (omega arith) ∙ ap (λ (x : Zp p). x .val) z ∙ field-zero p P) ∙ ap (λ (y : ℕ). lastNonzero y g) less)
+      go (yes z) rec = rec ∙ sym (last-zero (suc n) g (omega arith) (ap g less ∙ h n (omega arith) ∙ ap (λ (x : Zp p). x .val) z ∙ field-zero p P)
+          ∙ ap (λ (y : ℕ). lastNonzero y g) less)
       go (no ne) rec = sym (last-here (suc n) g (omega arith) (λ z. ne (zp-path _ _ (sym (h n (omega arith)) ∙ ap g (sym less) ∙ z ∙ sym (field-zero p P)))))
 
   -- the value of a row

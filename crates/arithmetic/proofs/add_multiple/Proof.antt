@@ -12,11 +12,11 @@ used-requires : tie.Need-used-requires
 used-requires c κs = search needs
 
 returns : tie.Need-returns
-returns c = nothing-added _ _ _ _ _ _ (c .before .before .before .before .pre) (sym (c .before .used .ensures .0) ∙ c .if1 .taken)
+returns c = let start : tie.Start = search needs in nothing-added _ _ _ _ _ _ (start .pre) (sym (c .before .used .ensures .0) ∙ c .if1 .taken)
 
 -- there is room for what b has
-room : (c : tie.Else1) → c .before .before .before .before .args .e + c .before .used .result ≤ length (c .before .before .before .before .args .a .now)
-room c = fits _ _ _ _ _ _ (c .before .before .before .before .pre) _ (c .before .used .ensures .0) (omega arith)
+room : (c : tie.Else1) → let start : tie.Start = search needs in start .args .e + c .before .used .result ≤ length (start .args .a .now)
+room c = let start : tie.Start = search needs in fits _ _ _ _ _ _ (start .pre) _ (c .before .used .ensures .0) (omega arith)
 
 add-end : tie.Need-add-end
 add-end c = omega (arith, room c)
@@ -47,7 +47,7 @@ same-length c = search needs
 returns-2 : tie.Need-returns-2
 returns-2 c =
     let called = c .before .before in
-    let said = called .before .before .before .before in
+    let said : tie.After-used = search needs in
     part-back _ _ _ _ _ _ (said .before .before .before .pre) _ (said .used .ensures .0) (omega arith) _ (called .add-scaled .ensures)
 
 pub add-multiple-spec : {M : Type 1} → statement M

@@ -30,7 +30,7 @@ shared-slice-read-plus-product c = omega arith
 
 plus-product-requires : tie.Need-plus-product-requires Inv-loop μ-loop
 plus-product-requires c κs =
-    let start = c .before .before .before .before .before .before in
+    let start : tie.Start Inv-loop μ-loop = search needs in
     (start .pre .ready, (start .pre .factor, start .pre .source .below _ (omega arith)))
 
 mul-a : tie.Need-mul-a Inv-loop μ-loop
@@ -46,7 +46,9 @@ loop-less : tie.Need-loop-less Inv-loop μ-loop
 loop-less c = omega arith
 
 loop-again : tie.Need-loop-again Inv-loop μ-loop
-loop-again c = changing-turn _ _ _ _ (c .before .before .before .before .loop .inv) _ (omega arith) (c .plus-product .ensures)
+loop-again c =
+    let head : tie.At-loop Inv-loop μ-loop = search needs in
+    changing-turn _ _ _ _ (head .loop .inv) _ (omega arith) (c .plus-product .ensures)
 
 same-length : tie.Need-same-length Inv-loop μ-loop
 same-length c = search needs

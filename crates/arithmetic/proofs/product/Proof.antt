@@ -23,7 +23,7 @@ loop-holds c = changing-start _ _
 
 product-at-requires : tie.Need-product-at-requires Inv-loop μ-loop
 product-at-requires c κs =
-    let start = c .before .before .before .before .before .before in
+    let start : tie.Start Inv-loop μ-loop = search needs in
     (start .pre .short, omega (arith, start .good))
 
 rem-out : tie.Need-rem-out Inv-loop μ-loop
@@ -31,8 +31,8 @@ rem-out c = omega arith
 
 cast-out : tie.Need-cast-out Inv-loop μ-loop
 cast-out c =
-    let p = c .before .before .before .before .before .before .before .args .m .p in
-    let some : 0 < p = omega arith in
+    let start : tie.Start Inv-loop μ-loop = search needs in
+    let some : 0 < start .args .m .p = omega arith in
     omega (arith, mod-lt (c .product-at .result) some)
 
 mul-out : tie.Need-mul-out Inv-loop μ-loop
@@ -49,8 +49,8 @@ loop-less c = omega arith
 
 loop-again : tie.Need-loop-again Inv-loop μ-loop
 loop-again c =
-    let p = c .before .before .before .before .before .before .before .args .m .p in
-    changing-turn _ _ _ _ (c .before .before .loop .inv) _ (omega arith) (ap (λ (x : ℕ). x % p) (c .product-at .ensures))
+    let start : tie.Start Inv-loop μ-loop = search needs in
+    changing-turn _ _ _ _ (c .before .before .loop .inv) _ (omega arith) (ap (λ (x : ℕ). x % start .args .m .p) (c .product-at .ensures))
 
 same-length : tie.Need-same-length Inv-loop μ-loop
 same-length c = search needs

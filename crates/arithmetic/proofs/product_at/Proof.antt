@@ -57,7 +57,7 @@ loop-less c = omega arith
 
 loop-again : tie.Need-loop-again Inv-loop μ-loop
 loop-again c =
-    let inv = c .before .before .before .before .loop .inv in
+    let head : tie.At-loop Inv-loop μ-loop = search needs in let inv = head .loop .inv in
     (refl, inv .1, summing-turn _ _ _ _ _ _ (inv .2) (omega arith) (c .whole-product .ensures))
 
 returns : tie.Need-returns Inv-loop μ-loop

@@ -11,7 +11,7 @@ use Rattle.checking.proofs.check_determinant.Statement.{statement}
 use Rattle.checking.proofs.check_determinant.Tie as tie
 
 -- past the first test the numbers are in range
-numbers : (c : tie.After-enum-told) → let args = c .before .before .before .before .args in Numbers (args .p) (args .n) (args .m) (args .d)
+numbers : (c : tie.After-enum-told) → let start : tie.Start = search needs in let args = start .args in Numbers (args .p) (args .n) (args .m) (args .d)
 numbers c = subst (OfNumbers _ _ _ _) (c .enum-told .given .1) (c .before .before .check-numbers .ensures)
 
 check-numbers-requires : tie.Need-check-numbers-requires

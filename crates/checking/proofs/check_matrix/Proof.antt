@@ -39,8 +39,8 @@ check-lengths-requires c κs = search needs
 
 returns-2 : tie.Need-returns-2
 returns-2 c =
-    let args = c .before .before .before .before .args in
-    matrix-lengths (args .a) (args .r) (c .check-lengths .result) (numbers (c .before)) (c .check-lengths .ensures)
+    let start : tie.Start = search needs in
+    matrix-lengths (start .args .a) (start .args .r) (c .check-lengths .result) (numbers (c .before)) (c .check-lengths .ensures)
 
 pub check-matrix-spec : {M : Type 1} → statement M
 check-matrix-spec =

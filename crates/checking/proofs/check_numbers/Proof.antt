@@ -4,7 +4,6 @@ use mathlib.Core.Path.{refl}
 use mathlib.Core.Logic.{inl, inr}
 use borrow.Author.Tests.{not-true, not-false}
 use Rattle.algebra.proofs.Flag.{denied}
-use Prim.Native.Nat.{_≤_}
 use Rattle.residues.specs.Modulus.{Accepted}
 use Rattle.refusals.specs.Refused.{InShape}
 use Rattle.checking.proofs.check_numbers.Statement.{statement}
@@ -14,16 +13,10 @@ use Rattle.checking.proofs.check_numbers.Tie as tie
 accepted : (c : tie.Else1) → Accepted (c .before .before .args .p)
 accepted c = c .before .accepts .ensures .0 (not-false _ (c .if1 .left))
 
-rows : (c : tie.Else2) → (1 ≤ c .before .before .before .before .args .n) × (c .before .before .before .before .args .n ≤ 8)
-rows c = c .before .one-to-eight .ensures .0 (not-false _ (c .if2 .left))
-
-columns : (c : tie.Else3) → let args = c .before .before .before .before .before .before .args in (1 ≤ args .m) × (args .m ≤ 8)
-columns c = c .before .one-to-eight2 .ensures .0 (not-false _ (c .if3 .left))
-
-shape : (c : tie.Else3) → let args = c .before .before .before .before .before .before .args in InShape (args .n) (args .m)
+shape : (c : tie.Else3) → let start : tie.Start = search needs in InShape (start .args .n) (start .args .m)
 shape c =
-    let n = rows (c .before .before) in
-    let m = columns c in
+    let n = c .before .before .before .one-to-eight .ensures .0 (not-false _ (c .before .before .if2 .left)) in
+    let m = c .before .one-to-eight2 .ensures .0 (not-false _ (c .if3 .left)) in
     record { rows = n .0; rows-most = n .1; columns = m .0; columns-most = m .1 }
 
 accepts-requires : tie.Need-accepts-requires
@@ -46,18 +39,18 @@ one-to-eight-requires-2 c κs = search needs
 
 returns-3 : tie.Need-returns-3
 returns-3 c = λ determinant given wanted a. inr (
-  accepted (c .before .before .before .before),
+  accepted (search needs),
   inl ((λ s. denied (c .before .one-to-eight2 .ensures) (not-true _ (c .if3 .taken)) (s .columns, s .columns-most)), refl, refl),
 )
 
 returns-4 : tie.Need-returns-4
 returns-4 c = λ determinant given wanted a. inr (
-  accepted (c .before .before .before .before .before),
+  accepted (search needs),
   inr (shape (c .before), inl ((λ h. omega (arith, c .if4 .taken, h)), refl, refl)),
 )
 
 returns-5 : tie.Need-returns-5
-returns-5 c = record { modulus = accepted (c .before .before .before .before .before); shape = shape (c .before); degree = c .if4 .left }
+returns-5 c = record { modulus = accepted (search needs); shape = shape (c .before); degree = c .if4 .left }
 
 pub check-numbers-spec : {M : Type 1} → statement M
 check-numbers-spec =

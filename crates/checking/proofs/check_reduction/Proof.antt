@@ -13,7 +13,8 @@ use Rattle.checking.proofs.check_reduction.Statement.{statement}
 use Rattle.checking.proofs.check_reduction.Tie as tie
 
 -- past the first test the numbers and two lengths are right
-known : (c : tie.After-enum-told) → let args = c .before .before .before .before .args in OfMatrix (args .p) (args .n) (args .m) (args .d) (length (now (args .a))) (args .r) Fine
+known : (c : tie.After-enum-told) → let start : tie.Start = search needs in let args = start .args in
+    OfMatrix (args .p) (args .n) (args .m) (args .d) (length (now (args .a))) (args .r) Fine
 known c = subst (OfMatrix _ _ _ _ _ _) (c .enum-told .given .1) (c .before .before .check-matrix .ensures)
 
 check-matrix-requires : tie.Need-check-matrix-requires
@@ -51,7 +52,8 @@ mul-if2 c = omega (arith, square-few (in-bounds (known (c .before) .0)))
 returns-3 : tie.Need-returns-3
 returns-3 c =
     let k = known (c .before .before) in
-    wrong-length false _ _ _ _ _ _ _ (k .0) tt 4 (wrong-later _ _ 3 _ _ (k .1) (wrong-later _ _ 2 _ _ (k .2) (wrong-later _ _ 1 _ _ (c .before .if1 .left) (wrong-here _ _ _ _ (c .if2 .taken)))))
+    wrong-length false _ _ _ _ _ _ _ (k .0) tt 4
+    (wrong-later _ _ 3 _ _ (k .1) (wrong-later _ _ 2 _ _ (k .2) (wrong-later _ _ 1 _ _ (c .before .if1 .left) (wrong-here _ _ _ _ (c .if2 .taken)))))
 
 check-coefficients-requires : tie.Need-check-coefficients-requires
 check-coefficients-requires c κs = search needs

@@ -10,7 +10,8 @@ use Rattle.checking.proofs.check_step.Statement.{statement}
 use Rattle.checking.proofs.check_step.Tie as tie
 
 -- past the first test the numbers and two lengths are right
-known : (c : tie.After-enum-told) → let args = c .before .before .before .before .args in OfMatrix (args .p) (args .n) (args .m) (args .d) (length (now (args .a))) (args .r) Fine
+known : (c : tie.After-enum-told) → let start : tie.Start = search needs in let args = start .args in
+    OfMatrix (args .p) (args .n) (args .m) (args .d) (length (now (args .a))) (args .r) Fine
 known c = subst (OfMatrix _ _ _ _ _ _) (c .enum-told .given .1) (c .before .before .check-matrix .ensures)
 
 check-matrix-requires : tie.Need-check-matrix-requires

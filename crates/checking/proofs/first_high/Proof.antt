@@ -25,7 +25,7 @@ wide-requires : tie.Need-wide-requires Inv-loop μ-loop
 wide-requires c κs = search needs
 
 returns : tie.Need-returns Inv-loop μ-loop
-returns c = seeking-found (c .before .before .before .before .loop .inv) (omega (arith, c .before .wide .ensures, c .if1 .taken))
+returns c = seeking-found (search needs) (omega (arith, c .before .wide .ensures, c .if1 .taken))
 
 add-i : tie.Need-add-i Inv-loop μ-loop
 add-i c = omega arith

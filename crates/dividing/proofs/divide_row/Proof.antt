@@ -6,32 +6,30 @@ use Rattle.dividing.proofs.divide_row.Statement.{statement}
 use Rattle.dividing.proofs.divide_row.Tie as tie
 
 returns : tie.Need-returns
-returns c = zero-row (c .before .before .before .before .before .pre) (omega arith)
+returns c = let start : tie.Start = search needs in zero-row (start .pre) (omega arith)
 
 coefficient-requires : tie.Need-coefficient-requires
-coefficient-requires c κs = c .before .before .before .before .before .before .pre .leading (omega arith)
+coefficient-requires c κs = let start : tie.Start = search needs in start .pre .leading (omega arith)
 
 inverse-requires : tie.Need-inverse-requires
 inverse-requires c κs =
-    let start = c .before .before .before .before .before .before .before in
+    let start : tie.Start = search needs in
     let some : 0 < start .args .x .0 = omega arith in
     (start .pre .ready, (start .pre .prime, rw (c .coefficient .ensures) (start .pre .nonzero some, leading-below (start .pre) some)))
 
 scale-row-requires : tie.Need-scale-row-requires
-scale-row-requires c κs = r-row (c .before .before .before .before .before .before .before .before .before .pre)
+scale-row-requires c κs = search (needs, r-row)
 
 mul-scale-row : tie.Need-mul-scale-row
-mul-scale-row c =
-    let start = c .before .before .before .before .before .before .before .before .before .before .before .before .before in
-    omega (arith, cell-most (start .pre), start .good)
+mul-scale-row c = let start : tie.Start = search needs in omega (arith, cell-most (start .pre), start .good)
 
 scale-row-requires-2 : tie.Need-scale-row-requires-2
-scale-row-requires-2 c κs = u-row (c .before .before .before .before .before .before .before .before .before .before .before .before .before .pre)
+scale-row-requires-2 c κs = search (needs, u-row)
 
 scale-column-requires : tie.Need-scale-column-requires
 scale-column-requires c κs =
-    let pre = c .before .before .before .before .before .before .before .before .before .before .before .before .before .before .before .before .before .pre in
-    record { ready = pre .ready; size = pre .matrices .sizes .v-size; x-fits = pre .fits }
+    let start : tie.Start = search needs in
+    record { ready = start .pre .ready; size = start .pre .matrices .sizes .v-size; x-fits = start .pre .fits }
 
 same-length : tie.Need-same-length
 same-length c = search needs
@@ -44,12 +42,12 @@ same-length-3 c = search needs
 
 returns-2 : tie.Need-returns-2
 returns-2 c =
-    let multiplied = c .before .before in
-    let followed = multiplied .before .before .before .before in
-    let divided = followed .before .before .before .before in
+    let start : tie.Start = search needs in
+    let followed : tie.After-scale-row2 = search needs in
+    let divided : tie.After-scale-row = search needs in
     let inverted = divided .before .before in
     let led = inverted .before in
-    let some : 0 < led .before .before .before .before .before .before .before .args .x .0 = omega arith in
+    let some : 0 < start .args .x .0 = omega arith in
     record {
       c = led .coefficient .result .0;
       f = inverted .inverse .result .0;
@@ -57,7 +55,7 @@ returns-2 c =
       inverse = inverted .inverse .ensures;
       r-divided = divided .scale-row .ensures;
       u-divided = followed .scale-row2 .ensures;
-      v-multiplied = multiplied .scale-column .ensures;
+      v-multiplied = search needs;
     }
 
 pub divide-row-spec : {M : Type 1} → statement M

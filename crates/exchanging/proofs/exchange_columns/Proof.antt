@@ -1,3 +1,4 @@
+use borrow.Author.Needs.{needs}
 use native.Mathlib.Omega.{arith}
 use mathlib.Core.Path.{_≡_}
 use mathlib.Core.List.{List}
@@ -48,24 +49,22 @@ mul-row-2 c = let start = c .before .before .before in omega (arith, cell-ends (
 
 mul-exchange-parts : tie.Need-mul-exchange-parts Inv-loop μ-loop
 mul-exchange-parts c =
-    let start = c .before .before .before .before in omega (arith, cell-ends (start .args .w) (c .before .loop-test .taken) (start .pre .x-fits))
+    let start : tie.Start Inv-loop μ-loop = search needs in omega (arith, cell-ends (start .args .w) (c .before .loop-test .taken) (start .pre .x-fits))
 
 add-exchange-parts : tie.Need-add-exchange-parts Inv-loop μ-loop
 add-exchange-parts c =
-    let start = c .before .before .before .before in omega (arith, cell-ends (start .args .w) (c .before .loop-test .taken) (start .pre .x-fits))
+    let start : tie.Start Inv-loop μ-loop = search needs in omega (arith, cell-ends (start .args .w) (c .before .loop-test .taken) (start .pre .x-fits))
 
 mul-exchange-parts-2 : tie.Need-mul-exchange-parts-2 Inv-loop μ-loop
 mul-exchange-parts-2 c =
-    let start = c .before .before .before .before in omega (arith, cell-ends (start .args .w) (c .before .loop-test .taken) (start .pre .y-fits))
+    let start : tie.Start Inv-loop μ-loop = search needs in omega (arith, cell-ends (start .args .w) (c .before .loop-test .taken) (start .pre .y-fits))
 
 add-exchange-parts-2 : tie.Need-add-exchange-parts-2 Inv-loop μ-loop
 add-exchange-parts-2 c =
-    let start = c .before .before .before .before in omega (arith, cell-ends (start .args .w) (c .before .loop-test .taken) (start .pre .y-fits))
+    let start : tie.Start Inv-loop μ-loop = search needs in omega (arith, cell-ends (start .args .w) (c .before .loop-test .taken) (start .pre .y-fits))
 
 exchange-parts-requires : tie.Need-exchange-parts-requires Inv-loop μ-loop
-exchange-parts-requires c κs =
-    let turning = c .before in
-    parts _ _ _ _ _ _ (turning .before .before .before .pre) _ (turning .before .loop .inv .1) (turning .loop-test .taken)
+exchange-parts-requires c κs = search (needs, parts)
 
 add-i : tie.Need-add-i Inv-loop μ-loop
 add-i c = omega arith

@@ -19,7 +19,7 @@ use Rattle.files.proofs.read_body.Statement.{statement}
 use Rattle.files.proofs.read_body.Tie as tie
 
 abbrev start : tie.After-enum-told → tie.Start
-start c = c .before .before .before .before .before
+start c = search needs
 
 abbrev places : tie.After-enum-told → ℕ
 places c = start c .args .n * start c .args .m * (start c .args .d + 1)
@@ -40,14 +40,17 @@ within : (c : tie.After-enum-told) → places c ≤ length (start c .args .room 
 within c = omega (arith, few-places c, start c .pre .places)
 
 -- past the second test the cells are as said, and their numbers stand at the front of the room
+abbrev filled : tie.After-enum-told2 → tie.After-read-matrix
+filled c = search needs
+
 abbrev tested : tie.After-enum-told2 → tie.After-enum-told
-tested c = c .before .before .before .before .before .before
+tested c = search needs
 
 abbrev after : tie.After-enum-told2 → List ℕ
-after c = c .before .before .before .before .read-matrix .last .1 .1 .1 .1 .1 .0 ++ drop (places (tested c)) (start (tested c) .args .room .now)
+after c = filled c .read-matrix .last .1 .1 .1 .1 .1 .0 ++ drop (places (tested c)) (start (tested c) .args .room .now)
 
-new-places : (c : tie.After-enum-told2) → length (c .before .before .before .before .read-matrix .last .1 .1 .1 .1 .1 .0) ≡ places (tested c)
-new-places c = c .before .before .before .before .read-matrix .kept .1 .1 .1 .1 .1 .0 ∙ length-take-le _ _ (within (tested c))
+new-places : (c : tie.After-enum-told2) → length (filled c .read-matrix .last .1 .1 .1 .1 .1 .0) ≡ places (tested c)
+new-places c = filled c .read-matrix .kept .1 .1 .1 .1 .1 .0 ∙ length-take-le _ _ (within (tested c))
 
 after-within : (c : tie.After-enum-told2) → places (tested c) ≤ length (after c)
 after-within c = simp length-append (omega (arith, new-places c))
@@ -55,7 +58,7 @@ after-within c = simp length-append (omega (arith, new-places c))
 cells : (c : tie.After-enum-told2) → let args = start (tested c) .args in
     cellLines (args .n) (args .m) (args .d) (drop (args .at) (args .s .now)) ≡ read (take (places (tested c)) (after c)) []
 cells c =
-    subst (MatrixRead _ _) (c .enum-told2 .given .1) (c .before .before .before .before .read-matrix .ensures)
+    subst (MatrixRead _ _) (c .enum-told2 .given .1) (filled c .read-matrix .ensures)
     ∙ ap (λ (l : List ℕ). read l []) (sym (take-at _ _ (places (tested c)) (new-places c)))
 
 check-numbers-requires : tie.Need-check-numbers-requires
@@ -105,7 +108,7 @@ same-length c = search needs
 
 returns-2 : tie.Need-returns-2
 returns-2 c =
-    let call = c .before .before .before .before .before in
+    let call : tie.After-read-matrix = search needs in
     body-wrong (numbers (call .before .before)) (subst (MatrixRead _ _) (c .before .line .given .1) (call .read-matrix .ensures))
 
 enum-told-2 : tie.Need-enum-told-2
@@ -128,9 +131,8 @@ same-length-2 c = search needs
 
 returns-3 : tie.Need-returns-3
 returns-3 c =
-    let checked = c .before .before .before in
-    body-coefficient (numbers (tested (checked .before .before))) (cells (checked .before .before))
-    (subst (OfCoefficients _ _) (c .before .x2 .given .1) (checked .check-coefficients .ensures))
+    body-coefficient (numbers (search needs)) (cells (search needs))
+    (subst (OfCoefficients _ _) (c .before .x2 .given .1) (c .before .before .before .check-coefficients .ensures))
 
 enum-told-3 : tie.Need-enum-told-3
 enum-told-3 c = search needs
@@ -140,9 +142,8 @@ same-length-3 c = search needs
 
 returns-4 : tie.Need-returns-4
 returns-4 c =
-    let checked = c .before .before in
-    body-matrix (numbers (tested (checked .before .before))) (cells (checked .before .before))
-    (subst (OfCoefficients _ _) (c .enum-told3 .given .1) (checked .check-coefficients .ensures))
+    body-matrix (numbers (search needs)) (cells (search needs))
+    (subst (OfCoefficients _ _) (c .enum-told3 .given .1) (c .before .before .check-coefficients .ensures))
 
 pub read-body-spec : {M : Type 1} → statement M
 read-body-spec =

@@ -31,19 +31,17 @@ cast-read-body-4 : tie.Need-cast-read-body-4
 cast-read-body-4 c = search needs
 
 -- the head's numbers
-taken : (c : tie.After-p) → let s = c .before .before .before .before .before .before .args .s .now in let found = c .p .given .0 in
+taken : (c : tie.After-p) → let start : tie.Start = search needs in let s = start .args .s .now in let found = c .p .given .0 in
     HeadTaken (headLines s) s (found .0) (found .1 .0) (found .1 .1 .0) (found .1 .1 .1 .0) (found .1 .1 .1 .1 .0)
 taken c = subst (HeadRead _ _) (c .p .given .1) (c .before .before .read-head .ensures)
 
 read-body-requires : tie.Need-read-body-requires
-read-body-requires c κs =
-    let head = c .before .before in
-    record { inside = taken head .inside; places = head .before .before .before .before .before .before .pre }
+read-body-requires c κs = record { inside = taken (c .before .before) .inside; places = search needs }
 
 returns-2 : tie.Need-returns-2
-returns-2 c =
+returns-2 c = let start : tie.Start = search needs in
     let call = c .before .before .before in
-    file-head (headLines (call .before .before .before .before .args .s .now)) (call .before .if1 .left)
+    file-head (headLines (start .args .s .now)) (call .before .if1 .left)
     (subst (HeadRead _ _) (c .before .line .given .1) (call .read-head .ensures))
 
 same-length : tie.Need-same-length

@@ -12,7 +12,7 @@ use Rattle.files.proofs.read_matrix.Statement.{statement}
 use Rattle.files.proofs.read_matrix.Tie as tie
 
 abbrev start : tie.After-read-cells → tie.Start
-start c = c .before .before .before .before
+start c = search needs
 
 few : (c : tie.After-read-cells) → start c .args .n * start c .args .m ≤ 64
 few c = mul-le-mul {n₁ = start c .args .n} {m₁ = start c .args .m} {n₂ = 8} {m₂ = 8} (start c .pre .rows) (start c .pre .columns)
@@ -21,13 +21,13 @@ few c = mul-le-mul {n₁ = start c .args .n} {m₁ = start c .args .m} {n₂ = 8
 abbrev matrix : tie.After-read-cells → Lines
 matrix c = let args = start c .args in matrixLines (args .n) (args .m) (args .d) (drop (args .at) (args .s .now))
 
-missed : (c : tie.After-c) → let call = c .before .before .before .before in
+missed : (c : tie.After-c) → let call : tie.After-read-cells = search needs in
     Missed (matrix call) (start call .args .n * start call .args .m) (c .c .given .0 .0)
-missed c = subst (CellsRead _ _ _ _) (c .c .given .1) (c .before .before .before .before .read-cells .ensures)
+missed c = let call : tie.After-read-cells = search needs in subst (CellsRead _ _ _ _) (c .c .given .1) (call .read-cells .ensures)
 
-took : (c : tie.After-end) → let call = c .before .before .before .before in
+took : (c : tie.After-end) → let call : tie.After-read-cells = search needs in
     TookCells (matrix call) (start call .args .s .now) (call .read-cells .last .1 .1 .1 .1 .1 .0) (c .end .given .0 .0)
-took c = subst (CellsRead _ _ _ _) (c .end .given .1) (c .before .before .before .before .read-cells .ensures)
+took c = let call : tie.After-read-cells = search needs in subst (CellsRead _ _ _ _) (c .end .given .1) (call .read-cells .ensures)
 
 read-cells-requires : tie.Need-read-cells-requires
 read-cells-requires c κs = search needs
@@ -36,16 +36,16 @@ enum-known-c : tie.Need-enum-known-c
 enum-known-c c = search needs
 
 add-t13 : tie.Need-add-t13
-add-t13 c = omega (arith, missed (c .before) .within, few (c .before .before .before .before .before))
+add-t13 c = omega (arith, missed (c .before) .within, few (search needs))
 
 enum-known-end : tie.Need-enum-known-end
 enum-known-end c = search needs
 
 mul-t16 : tie.Need-mul-t16
-mul-t16 c = omega (arith, few (c .before .before .before .before .before .before))
+mul-t16 c = omega (arith, few (search needs))
 
 add-t17 : tie.Need-add-t17
-add-t17 c = omega (arith, few (c .before .before .before .before .before .before))
+add-t17 c = omega (arith, few (search needs))
 
 same-length : tie.Need-same-length
 same-length c = search needs

@@ -19,24 +19,24 @@ abbrev μ-loop : tie.MeasureT-loop
 μ-loop r₀ column₀ spare₀ index₀ degree₀ budget m w wide md rows r column spare index degree = total (suc m) (valuesOf m w r)
 
 -- a turn, and its rows
-abbrev Turn : tie.After-l Inv-loop μ-loop → tie.At-loop Inv-loop μ-loop
-Turn c = c .before .before .before .before .before .before .before
+abbrev turn : tie.After-l Inv-loop μ-loop → tie.After-degree-sum Inv-loop μ-loop
+turn c = search needs
 
-rows-next : (c : tie.After-l Inv-loop μ-loop) → let args = Turn c .before .before .before .before .before .before .args in
-    IsNextOf (suc (args .m)) (args .m) (valuesOf (args .m) (args .w) (Turn c .loop .r)) (Rows (c .l .given .0 .0) (c .l .given .0 .1 .0))
-rows-next c = next-is _ _ _ _ _ (Turn c .loop .inv .asked .pivots) _ _ (rw add-one at (c .before .before .next-rows .ensures)) (c .l .given .1)
+rows-next : (c : tie.After-l Inv-loop μ-loop) → let start : tie.Start Inv-loop μ-loop = search needs in let args = start .args in
+    IsNextOf (suc (args .m)) (args .m) (valuesOf (args .m) (args .w) (turn c .before .before .loop .r)) (Rows (c .l .given .0 .0) (c .l .given .0 .1 .0))
+rows-next c = next-is _ _ _ _ _ (turn c .before .before .loop .inv .asked .pivots) _ _ (rw add-one at (c .before .before .next-rows .ensures)) (c .l .given .1)
 
 add-rows : tie.Need-add-rows Inv-loop μ-loop
-add-rows c = omega (arith, c .before .before .before .before .before .pre .room .columns-most)
+add-rows c = omega arith
 
 loop-holds : tie.Need-loop-holds Inv-loop μ-loop
-loop-holds c = going-start (c .before .before .before .before .before .pre)
+loop-holds c = search (needs, going-start)
 
 degree-sum-requires : tie.Need-degree-sum-requires Inv-loop μ-loop
 degree-sum-requires c κs = rw add-one (sum-asked (c .before .loop .inv))
 
 next-rows-requires : tie.Need-next-rows-requires Inv-loop μ-loop
-next-rows-requires c κs = rw add-one (next-asked (c .before .before .before .before .loop .inv))
+next-rows-requires c κs = rw add-one (search (needs, next-asked))
 
 enum-known-l : tie.Need-enum-known-l Inv-loop μ-loop
 enum-known-l c = search needs
@@ -45,56 +45,57 @@ enum-told : tie.Need-enum-told Inv-loop μ-loop
 enum-told c = search needs
 
 same-length : tie.Need-same-length Inv-loop μ-loop
-same-length c = c .before .before .before .before .before .before .before .loop .inv .r-same
+same-length c = search needs
 
 same-length-2 : tie.Need-same-length-2 Inv-loop μ-loop
-same-length-2 c = c .before .before .before .before .before .before .before .loop .inv .column-same
+same-length-2 c = search needs
 
 same-length-3 : tie.Need-same-length-3 Inv-loop μ-loop
-same-length-3 c = c .before .before .before .before .before .before .before .loop .inv .spare-same
+same-length-3 c = search needs
 
 same-length-4 : tie.Need-same-length-4 Inv-loop μ-loop
-same-length-4 c = c .before .before .before .before .before .before .before .loop .inv .index-same
+same-length-4 c = search needs
 
 same-length-5 : tie.Need-same-length-5 Inv-loop μ-loop
-same-length-5 c = c .before .before .before .before .before .before .before .loop .inv .degree-same
+same-length-5 c = search needs
 
 returns : tie.Need-returns Inv-loop μ-loop
 returns c =
-    let inv = c .before .before .before .before .before .before .before .loop .inv in
-    going-stop inv (rw add-one at (c .before .before .before .before .before .degree-sum .ensures))
+    let added : tie.After-degree-sum Inv-loop μ-loop = search needs in
+    let inv = added .before .before .loop .inv in
+    going-stop inv (rw add-one at (added .degree-sum .ensures))
     (next-is _ _ _ _ _ (inv .asked .pivots) _ _ (rw add-one at (c .before .before .next-rows .ensures)) (c .enum-told .given .1))
 
 mul-top : tie.Need-mul-top Inv-loop μ-loop
-mul-top c = omega (arith, k-room (Turn (c .before) .loop .inv) (rows-next (c .before)))
+mul-top c = omega (arith, k-room (turn (c .before) .before .before .loop .inv) (rows-next (c .before)))
 
 slice-read-top : tie.Need-slice-read-top Inv-loop μ-loop
-slice-read-top c = k-room (Turn (c .before .before) .loop .inv) (rows-next (c .before .before)) .0
+slice-read-top c = k-room (turn (c .before .before) .before .before .loop .inv) (rows-next (c .before .before)) .0
 
 sub-top : tie.Need-sub-top Inv-loop μ-loop
-sub-top c = let turning = c .before .before in rw (turning .before .before .before .before .before .degree-sum .ensures, add-one) (within (Turn turning .loop .inv))
+sub-top c = rw (turn (c .before .before) .degree-sum .ensures, add-one) (within (turn (c .before .before) .before .before .loop .inv))
 
 add-top : tie.Need-add-top Inv-loop μ-loop
 add-top c =
-    let turning = c .before .before in
-    omega (arith, rw add-one at (turning .before .before .before .before .before .degree-sum .ensures), reach-fits (Turn turning .loop .inv) (rows-next turning))
+    let rows = c .before .before in
+    omega (arith, rw add-one at (turn rows .degree-sum .ensures), reach-fits (turn rows .before .before .loop .inv) (rows-next rows))
 
 step-requires : tie.Need-step-requires Inv-loop μ-loop
 step-requires c κs =
-    let turning = c .before .before .before .before .before .before .before in
-    rw (turning .before .before .before .before .before .degree-sum .ensures, add-one) (step-asked (Turn turning .loop .inv) (rows-next turning))
+    let rows : tie.After-l Inv-loop μ-loop = search needs in
+    rw (turn rows .degree-sum .ensures, add-one) (step-asked (turn rows .before .before .loop .inv) (rows-next rows))
 
 loop-less : tie.Need-loop-less Inv-loop μ-loop
 loop-less c =
-    let stepped = c .before .before .before .before .before .before .before .before .before .before in
-    let turning = stepped .before .before .before .before .before .before .before .before in
-    falls (Turn turning .loop .inv) (rows-next turning) (stepped .step .ensures)
+    let stepped : tie.After-step Inv-loop μ-loop = search needs in
+    let rows : tie.After-l Inv-loop μ-loop = search needs in
+    falls (turn rows .before .before .loop .inv) (rows-next rows) (stepped .step .ensures)
 
 loop-again : tie.Need-loop-again Inv-loop μ-loop
 loop-again c =
-    let stepped = c .before .before .before .before .before .before .before .before .before .before in
-    let turning = stepped .before .before .before .before .before .before .before .before in
-    going-on (Turn turning .loop .inv) (rows-next turning) (stepped .step .ensures) (stepped .step .kept .1 .1 .0)
+    let stepped : tie.After-step Inv-loop μ-loop = search needs in
+    let rows : tie.After-l Inv-loop μ-loop = search needs in
+    going-on (turn rows .before .before .loop .inv) (rows-next rows) (stepped .step .ensures) (stepped .step .kept .1 .1 .0)
 
 pub reduce-columns-spec : {M : Type 1} → statement M
 reduce-columns-spec =

@@ -21,22 +21,20 @@ slice-read-add-row c = search needs
 
 add-row-requires : tie.Need-add-row-requires
 add-row-requires c κs =
-    let planned = c .before .before .before .before in
-    let asked = planned .before .before .before .before .before .before .before .before .before .pre in
-    row-asked _ _ _ _ _ _ _ _ _ (asked .plan) _ _ _ (planned .plan .ensures) (asked .k-short) (asked .row-room)
+    let planned : tie.After-plan = search needs in let start : tie.Start = search planned in
+    row-asked _ _ _ _ _ _ _ _ _ (start .pre .plan) _ _ _ (planned .plan .ensures) (search needs) (search needs)
 
 add-row-requires-2 : tie.Need-add-row-requires-2
 add-row-requires-2 c κs =
-    let added = c .before .before .before .before .before .before in
-    let planned = added .before .before .before .before .before in
-    column-asked (planned .before .before .before .before .before .before .before .before .before .pre) (planned .plan .ensures) (added .add-row .kept .1 .0)
+    let planned : tie.After-plan = search needs in let start : tie.Start = search planned in
+    column-asked (start .pre) (planned .plan .ensures) (search needs)
 
 renew-requires : tie.Need-renew-requires
 renew-requires c κs =
-    let added = c .before .before .before .before .before .before .before .before .before .before .before .before .before .before in
-    let planned = added .before .before .before .before .before in
-    let asked = planned .before .before .before .before .before .before .before .before .before .pre in
-    renew-asked _ _ _ _ _ _ _ _ _ (asked .plan) _ _ _ (planned .plan .ensures) _ (added .add-row .ensures) (asked .columns) (asked .l-short) (asked .k-short)
+    let added : tie.After-add-row = search needs in
+    let planned : tie.After-plan = search needs in let start : tie.Start = search planned in
+    renew-asked _ _ _ _ _ _ _ _ _ (start .pre .plan) _ _ _ (planned .plan .ensures) _ (added .add-row .ensures)
+    (start .pre .columns) (start .pre .l-short) (start .pre .k-short)
 
 same-length : tie.Need-same-length
 same-length c = search needs

@@ -18,7 +18,7 @@ same-length-3 : tie.Need-same-length-3
 same-length-3 c = search needs
 
 returns : tie.Need-returns
-returns c = rw (c .popov-reply-of .ensures) (c .before .before .before .before .before .before .before .form .ensures)
+returns c = let made : tie.After-form = search needs in rw (c .popov-reply-of .ensures) (made .form .ensures)
 
 pub moorbesen-popov-spec : {M : Type 1} → statement M
 moorbesen-popov-spec =

@@ -18,7 +18,7 @@ same-length-3 : tie.Need-same-length-3
 same-length-3 c = search needs
 
 returns : tie.Need-returns
-returns c = rw (c .reply-of .ensures) (c .before .before .before .before .before .before .before .reduce .ensures)
+returns c = let made : tie.After-reduce = search needs in rw (c .reply-of .ensures) (made .reduce .ensures)
 
 pub moorbesen-reduce-spec : {M : Type 1} → statement M
 moorbesen-reduce-spec =

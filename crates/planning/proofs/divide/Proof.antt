@@ -19,7 +19,7 @@ difference-requires c κs =
     (start .pre .ready, record { left = some; right = rw (c .product .ensures) (mod-lt _ some) })
 
 returns : tie.Need-returns
-returns c = divided _ _ _ _ _ _ _ (c .before .before .before .pre .dividend) (c .before .before .inverse .ensures) (c .before .product .ensures) (c .difference .ensures)
+returns c = search (needs, divided)
 
 pub divide-spec : {M : Type 1} → statement M
 divide-spec = tie.close (tie.spec inverse-requires product-requires difference-requires returns)

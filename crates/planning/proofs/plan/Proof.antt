@@ -38,12 +38,12 @@ sub-divide c = search needs
 
 divide-requires : tie.Need-divide-requires
 divide-requires c κs =
-    let first = c .before .before in
-    let pre = first .before .before .before .before .before .before .before .pre in
+    let start : tie.Start = search needs in
+    let pre = start .pre in
     record {
       ready = pre .ready;
       prime = pre .prime;
-      dividend = rw (first .coefficient .ensures) (coefficient-below (pre .residues) (pre .l-pivot .leading));
+      dividend = rw (c .before .before .coefficient .ensures) (coefficient-below (pre .residues) (pre .l-pivot .leading));
       divisor = rw (c .coefficient2 .ensures) (coefficient-below (pre .residues) (pre .k-pivot .leading));
       nonzero = rw (c .coefficient2 .ensures) (pre .k-pivot .nonzero);
     }

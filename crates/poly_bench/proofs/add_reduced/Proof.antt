@@ -19,8 +19,8 @@ scale-requires-2 c κs = search needs
 
 add-rounds-requires : tie.Need-add-rounds-requires
 add-rounds-requires c κs =
-    let source = c .before .before .before .before in
-    let target = source .before .before .before .before in
+    let source : tie.After-scale2 = search needs in
+    let target : tie.After-scale = search needs in
     let factor = target .before .before in
     let start = factor .before .before .before in
     let some : 0 < start .args .m .p = omega (arith, start .pre .0 .range .two) in (
@@ -40,10 +40,10 @@ same-length-2 c = search needs
 
 returns : tie.Need-returns
 returns c =
-    let called = c .before .before in
-    let source = called .before .before .before .before .before in
-    let target = source .before .before .before .before in
-    record { sum = rw (← target .before .before .of .ensures, ← source .scale2 .ensures, ← target .scale .ensures) (called .add-rounds .ensures); source = source .scale2 .ensures }
+    let source : tie.After-scale2 = search needs in
+    let target : tie.After-scale = search needs in
+    let sum = c .before .before .add-rounds .ensures in
+    record { sum = rw (← target .before .before .of .ensures, ← source .scale2 .ensures, ← target .scale .ensures) sum; source = source .scale2 .ensures }
 
 pub add-reduced-spec : {M : Type 1} → statement M
 add-reduced-spec =

@@ -22,7 +22,7 @@ loop-holds c = (omega arith, refl, c .before .before .pre .1 .0, sym (repeated-n
 
 add-multiple-requires : tie.Need-add-multiple-requires Inv-loop μ-loop
 add-multiple-requires c κs =
-    let pre = c .before .before .before .before .before .pre in
+    let start : tie.Start Inv-loop μ-loop = search needs in let pre = start .pre in
     let inv = c .before .before .loop .inv in
     with-room _ _ _ _ _ _ (pre .0 .0) (pre .0 .1) (inv .2) (pre .1 .1) (omega (arith, pre .1 .2, inv .1))
 

@@ -9,7 +9,7 @@ use Rattle.poly_bench.proofs.poly_bench_add.Statement.{statement}
 use Rattle.poly_bench.proofs.poly_bench_add.Tie as tie
 
 -- past the first test p is accepted
-accepted : (c : tie.Else1) → Accepted (c .before .before .before .before .args .p)
+accepted : (c : tie.Else1) → let start : tie.Start = search needs in Accepted (start .args .p)
 accepted c = c .before .accepts .ensures .0 (not-false _ (c .if1 .left))
 
 accepts-requires : tie.Need-accepts-requires
@@ -28,7 +28,7 @@ returns-3 : tie.Need-returns-3
 returns-3 c = add-refused _ _ _ _ _ _ (λ t. omega (arith, t .1))
 
 of-requires : tie.Need-of-requires
-of-requires c κs = in-range (accepted (c .before .before .before .before))
+of-requires c κs = in-range (accepted (search needs))
 
 add-reduced-requires : tie.Need-add-reduced-requires
 add-reduced-requires c κs = search needs
@@ -41,9 +41,8 @@ same-length-2 c = search needs
 
 returns-4 : tie.Need-returns-4
 returns-4 c =
-    let called = c .before .before .before .before in
-    let passed = called .before .before .before .before .before .before in
-    add-done _ _ _ _ _ _ (accepted passed) (omega arith) (rw (called .before .of .ensures .0) at (called .add-reduced .ensures))
+    let called : tie.After-add-reduced = search needs in
+    add-done _ _ _ _ _ _ (accepted (search needs)) (omega arith) (rw (called .before .of .ensures .0) at (called .add-reduced .ensures))
 
 pub poly-bench-add-spec : {M : Type 1} → statement M
 poly-bench-add-spec =

@@ -10,7 +10,7 @@ use Rattle.poly_bench.proofs.poly_bench_product.Statement.{statement}
 use Rattle.poly_bench.proofs.poly_bench_product.Tie as tie
 
 -- past the first test p is accepted
-accepted : (c : tie.Else1) → Accepted (c .before .before .before .before .before .args .p)
+accepted : (c : tie.Else1) → let start : tie.Start = search needs in Accepted (start .args .p)
 accepted c = c .before .accepts .ensures .0 (not-false _ (c .if1 .left))
 
 accepts-requires : tie.Need-accepts-requires
@@ -35,7 +35,7 @@ returns-4 : tie.Need-returns-4
 returns-4 c = product-refused _ _ _ _ _ (λ t. omega (arith, t .3))
 
 of-requires : tie.Need-of-requires
-of-requires c κs = in-range (accepted (c .before .before .before .before))
+of-requires c κs = in-range (accepted (search needs))
 
 product-rounds-requires : tie.Need-product-rounds-requires
 product-rounds-requires c κs = product-room _ _ _ _ _ (c .of .ensures .1) (omega arith) (omega arith)
@@ -46,8 +46,8 @@ same-length c = search needs
 returns-5 : tie.Need-returns-5
 returns-5 c =
     let called = c .before .before in
-    let passed = called .before .before .before .before .before .before in
-    product-done _ _ _ _ _ (accepted passed, omega arith, omega arith, omega arith) (rw (called .before .of .ensures .0) at (called .product-rounds .ensures))
+    product-done _ _ _ _ _ (accepted (search needs), omega arith, omega arith, omega arith)
+    (rw (called .before .of .ensures .0) at (called .product-rounds .ensures))
 
 pub poly-bench-product-spec : {M : Type 1} → statement M
 poly-bench-product-spec =

@@ -20,7 +20,7 @@ loop-holds c = (omega arith, refl, sym (repeated-none _ _))
 
 product-requires : tie.Need-product-requires Inv-loop μ-loop
 product-requires c κs =
-    let pre = c .before .before .before .before .before .before .pre in
+    let start : tie.Start Inv-loop μ-loop = search needs in let pre = start .pre in
     record { ready = pre .ready; room = λ k h. pre .room k (omega (arith, c .before .before .loop .inv .1)); short = pre .short }
 
 add-i : tie.Need-add-i Inv-loop μ-loop

@@ -14,10 +14,7 @@ same-length : tie.Need-same-length
 same-length c = search needs
 
 returns : tie.Need-returns
-returns c =
-    let called = c .before .before in
-    let start = called .before .before .before .before .before .before .before in
-    rw (called .scale .ensures) (scaled-coefficients _ _ _ (omega arith))
+returns c = rw (c .before .before .scale .ensures) (scaled-coefficients _ _ _ (omega arith))
 
 pub fill-spec : {M : Type 1} → statement M
 fill-spec = tie.close (tie.spec mix-requires scale-requires same-length returns)

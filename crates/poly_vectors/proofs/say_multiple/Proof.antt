@@ -32,7 +32,7 @@ slice-aggregate-add-multiple-2 c = search needs
 
 add-multiple-requires : tie.Need-add-multiple-requires
 add-multiple-requires c κs =
-    let source = c .before .before .before .before in
+    let source : tie.After-fill2 = search needs in
     let target = source .before .before .before in
     let start = target .before .before in
     let small : c .before .before .of .result .0 < start .args .m .p = rw (c .before .before .of .ensures) (mod-lt _ (omega arith)) in

@@ -30,7 +30,7 @@ slice-aggregate-product-3 c = search needs
 
 product-requires : tie.Need-product-requires
 product-requires c κs =
-    let right = c .before .before .before .before in
+    let right : tie.After-fill2 = search needs in
     let left = right .before .before .before in
     product-room _ _ _ _ _ (left .before .before .pre .0) (omega (arith, left .fill .kept .0, right .fill2 .kept .0)) (omega (arith, left .fill .kept .0))
 

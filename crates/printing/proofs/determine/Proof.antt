@@ -11,9 +11,8 @@ same-length c = search needs
 
 returns : tie.Need-returns
 returns c =
-    let call = c .before .before in
-    let asked = call .before .before .before .before .pre in
-    determined (asked .matrix) (asked .places) (call .determinant .ensures)
+    let start : tie.Start = search needs in
+    determined (start .pre .matrix) (start .pre .places) (c .before .before .determinant .ensures)
 
 pub determine-spec : {M : Type 1} → statement M
 determine-spec = tie.close (tie.spec determinant-requires same-length returns)

@@ -108,7 +108,7 @@ returns-2 c =
 
 returns-3 : tie.Need-returns-3
 returns-3 c =
-    let found = c .before .before .before .before in
+    let found : tie.After-p = search needs in
     output-as (λ w answer. printed-matrix (text (arm found)) (matrix found) answer) (c .put-matrix .ensures)
 
 pub print-spec : {M : Type 1} → statement M

@@ -132,10 +132,10 @@ enum-known-rank : tie.Need-enum-known-rank
 enum-known-rank c = search needs
 
 array-share-prefix-r : tie.Need-array-share-prefix-r
-array-share-prefix-r c = after-within (reduced (c .before .before .before .before))
+array-share-prefix-r c = after-within (reduced (search needs))
 
 slice-aggregate-put-result : tie.Need-slice-aggregate-put-result
-slice-aggregate-put-result c = sym (length-take-le _ _ (after-within (reduced (c .before .before .before .before .before))))
+slice-aggregate-put-result c = sym (length-take-le _ _ (after-within (reduced (search needs))))
 
 put-result-requires : tie.Need-put-result-requires
 put-result-requires c κs =

@@ -96,7 +96,7 @@ put-answer-requires c κs =
 
 returns : tie.Need-returns
 returns c =
-    let determined = c .before .before .before .before in
+    let determined : tie.After-determine = search needs in
     let asked = start (made determined) .pre in
     output (record {
       r = _;

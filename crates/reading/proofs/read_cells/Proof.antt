@@ -19,14 +19,14 @@ abbrev μ-loop : tie.MeasureT-loop
 μ-loop s at n m d room₀ count width i₀ c₀ a₀ room i c a = count - c
 
 abbrev start : tie.In-loop Inv-loop μ-loop → tie.Start Inv-loop μ-loop
-start c = c .before .before .before .before
+start c = search needs
 
 -- the next line's numbers have their places
 within : (c : tie.In-loop Inv-loop μ-loop) → c .before .loop .a + (start c .args .d + 1) ≤ length (c .before .loop .room)
 within c = storing-room _ _ _ _ _ _ _ _ _ (c .before .loop .inv) (c .loop-test .taken)
 
 abbrev turn : tie.After-read-line Inv-loop μ-loop → tie.In-loop Inv-loop μ-loop
-turn c = c .before .before .before .before
+turn c = search needs
 
 -- what was read of the next line
 line-read : (c : tie.After-read-line Inv-loop μ-loop) → let args = start (turn c) .args in let s = args .s .now in
@@ -72,7 +72,7 @@ part-read-line-end : tie.Need-part-read-line-end Inv-loop μ-loop
 part-read-line-end c = within (c .before .before)
 
 read-line-requires : tie.Need-read-line-requires Inv-loop μ-loop
-read-line-requires c κs = c .before .before .before .before .loop .inv .inside
+read-line-requires c κs = search needs
 
 enum-known-next : tie.Need-enum-known-next Inv-loop μ-loop
 enum-known-next c = search needs
@@ -82,13 +82,13 @@ enum-told c = search needs
 
 same-length : tie.Need-same-length Inv-loop μ-loop
 same-length c =
-    let call = c .before .before .before .before in
-    storing-size _ _ _ _ _ _ _ _ _ (turn call .before .loop .inv) (turn call .loop-test .taken) (call .read-line .last .1 .1 .1 .0) (call .read-line .kept .1 .1 .1 .0)
-    ∙ sym (start (turn call) .pre .places)
+    let call : tie.After-read-line Inv-loop μ-loop = search needs in
+    storing-size _ _ _ _ _ _ _ _ _ (turn call .before .loop .inv) (turn call .loop-test .taken)
+    (call .read-line .last .1 .1 .1 .0) (call .read-line .kept .1 .1 .1 .0) ∙ sym (start (turn call) .pre .places)
 
 returns : tie.Need-returns Inv-loop μ-loop
 returns c =
-    let call = c .before .before .before .before in
+    let call : tie.After-read-line Inv-loop μ-loop = search needs in
     storing-wrong _ _ _ _ _ _ _ _ _ (turn call .before .loop .inv) (turn call .loop-test .taken)
     (subst (LineRead _ _ _) (c .enum-told .given .1) (line-read call))
 
@@ -100,12 +100,12 @@ loop-less c = omega arith
 
 loop-again : tie.Need-loop-again Inv-loop μ-loop
 loop-again c =
-    let call = c .before .before .before .before .before in
-    storing-turn _ _ _ _ _ _ _ _ _ (turn call .before .loop .inv) (turn call .loop-test .taken) (call .read-line .last .1 .1 .1 .0) (call .read-line .kept .1 .1 .1 .0) _
+    let call : tie.After-read-line Inv-loop μ-loop = search needs in
+    storing-turn _ _ _ _ _ _ _ _ _ (turn call .before .loop .inv) (turn call .loop-test .taken) _ (call .read-line .kept .1 .1 .1 .0) _
     (subst (LineRead _ _ _) (c .before .next .given .1) (line-read call))
 
 same-length-2 : tie.Need-same-length-2 Inv-loop μ-loop
-same-length-2 c = c .before .loop .inv .size ∙ sym (c .before .before .before .before .pre .places)
+same-length-2 c = let call : tie.Start Inv-loop μ-loop = search needs in c .before .loop .inv .size ∙ sym (call .pre .places)
 
 returns-2 : tie.Need-returns-2 Inv-loop μ-loop
 returns-2 c = storing-end _ _ _ _ _ _ _ _ _ (c .before .loop .inv) (c .loop-test .left)

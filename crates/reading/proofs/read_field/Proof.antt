@@ -38,7 +38,7 @@ array-read-t11 c = search needs
 
 returns-2 : tie.Need-returns-2
 returns-2 c =
-    let call = c .before .before .before .before in
+    let call : tie.After-read-line = search needs in
     let line = subst (LineRead _ _ _) (c .before .next .given .1) (call .read-line .ensures) in
     one-number _ (call .read-line .last .1 .1 .1 .0) _ line (call .read-line .kept .1 .1 .1 .0)
 

@@ -12,7 +12,7 @@ use Rattle.reading.proofs.read_line.Statement.{statement}
 use Rattle.reading.proofs.read_line.Tie as tie
 
 abbrev start : tie.Else1 → tie.Start
-start c = c .before .before .before .before .before
+start c = search needs
 
 on : (c : tie.Else1) → startsWith (start c .args .key .now) (drop (start c .args .at) (start c .args .s .now)) ≡ true
 on c = sym (c .before .starts-with .ensures) ∙ not-false _ (c .if1 .left)
@@ -33,7 +33,7 @@ same-length : tie.Need-same-length
 same-length c = search needs
 
 returns-2 : tie.Need-returns-2
-returns-2 c = rw (line-on _ _ _ (on (c .before .before .before .before)), drop-drop) (c .before .before .read-numbers .ensures)
+returns-2 c = rw (line-on _ _ _ (on (search needs)), drop-drop) (c .before .before .read-numbers .ensures)
 
 pub read-line-spec : {M : Type 1} → statement M
 read-line-spec = tie.close (tie.spec starts-with-requires returns add-read-numbers read-numbers-requires same-length returns-2)

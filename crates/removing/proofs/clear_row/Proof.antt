@@ -1,3 +1,4 @@
+use borrow.Author.Needs.{needs}
 use native.Mathlib.Omega.{arith}
 use mathlib.Core.Path.{_≡_, refl, _∙_}
 use Prim.Native.Nat.{_<_}
@@ -17,68 +18,65 @@ Inv-loop r₀ u₀ v₀ spare₀ index degree k n m w md count₀ r u v spare co
 abbrev μ-loop : tie.MeasureT-loop
 μ-loop r₀ u₀ v₀ spare₀ index degree k n m w md count₀ r u v spare count = leftOf n m w r index degree
 
--- what was asked
-asked : (head : tie.At-loop Inv-loop μ-loop) → let args = head .before .before .before .before .before .before .before .args in
-    ClearAsked (args .md .p) (args .md .reciprocal) (args .n) (args .m) (args .w) (args .k)
-    (now (args .r)) (now (args .u)) (now (args .v)) (now (args .spare)) (now (args .index)) (now (args .degree))
-asked head = head .before .before .before .before .before .before .before .pre
+abbrev start : tie.After-shared-slice-known2 Inv-loop μ-loop → tie.Start Inv-loop μ-loop
+start c = search needs
 
 -- what is known at the loop's head
-here : (head : tie.At-loop Inv-loop μ-loop) → let args = head .before .before .before .before .before .before .before .args in
+here : (head : tie.At-loop Inv-loop μ-loop) → let args = start (head .before) .args in
     ClearAsked (args .md .p) (args .md .reciprocal) (args .n) (args .m) (args .w) (args .k)
     (head .loop .r) (head .loop .u) (head .loop .v) (head .loop .spare) (now (args .index)) (now (args .degree))
-here head = clear-on (asked head) (head .loop .inv .0) (head .loop .inv .1)
+here head = clear-on (start (head .before) .pre) (head .loop .inv .0) (head .loop .inv .1)
 
 -- where the loop goes on, row k has an excess
 some : (c : tie.Else1 Inv-loop μ-loop) → 0 < c .before .before .highest .result .excess
 some c = omega arith
 
 loop-holds : tie.Need-loop-holds Inv-loop μ-loop
-loop-holds c = let asked = c .before .before .before .before .before .before .pre in (cleared-start (asked .removing) (asked .before), refl)
+loop-holds c = (cleared-start (start c .pre .removing) (start c .pre .before), refl)
 
 highest-requires : tie.Need-highest-requires Inv-loop μ-loop
 highest-requires c κs = highest-asked (here (c .before))
 
 same-length : tie.Need-same-length Inv-loop μ-loop
-same-length c = let head = c .before .before .before .before in r-same (asked head .removing) (head .loop .inv .0)
+same-length c = search (needs, r-same)
 
 same-length-2 : tie.Need-same-length-2 Inv-loop μ-loop
-same-length-2 c = let head = c .before .before .before .before in u-same (asked head .removing) (head .loop .inv .0)
+same-length-2 c = search (needs, u-same)
 
 same-length-3 : tie.Need-same-length-3 Inv-loop μ-loop
-same-length-3 c = let head = c .before .before .before .before in v-same (asked head .removing) (head .loop .inv .0)
+same-length-3 c = search (needs, v-same)
 
 same-length-4 : tie.Need-same-length-4 Inv-loop μ-loop
-same-length-4 c = c .before .before .before .before .loop .inv .1
+same-length-4 c = search needs
 
 returns : tie.Need-returns Inv-loop μ-loop
-returns c = cleared-row (c .before .before .before .before .loop .inv .0) (rw (c .if1 .taken) at (c .before .before .highest .ensures))
+returns c = cleared-row (search needs) (rw (c .if1 .taken) at (c .before .before .highest .ensures))
 
 sub-e : tie.Need-sub-e Inv-loop μ-loop
 sub-e c = omega arith
 
 remove-requires : tie.Need-remove-requires Inv-loop μ-loop
 remove-requires c κs =
-    let other = c .before .before .before .before .before in
+    let other : tie.Else1 Inv-loop μ-loop = search needs in
     let found = other .before .before in
     clear-asked (here (found .before .before)) (found .highest .ensures) (some other)
 
 add-count : tie.Need-add-count Inv-loop μ-loop
 add-count c =
-    let head = c .before .before .before .before .before .before .before .before .before .before .before .before .before .before .before .before .before .before in
-    omega (arith, count-fits (asked head .removing) (head .loop .inv .0), head .before .before .before .before .before .before .before .good)
+    let head : tie.At-loop Inv-loop μ-loop = search needs in
+    omega (arith, count-fits (start (head .before) .pre .removing) (head .loop .inv .0), start (head .before) .good)
 
 loop-less : tie.Need-loop-less Inv-loop μ-loop
 loop-less c =
-    let removed = c .before .before .before .before .before .before .before .before in
-    let other = removed .before .before .before .before .before .before in
+    let removed : tie.After-remove Inv-loop μ-loop = search needs in
+    let other : tie.Else1 Inv-loop μ-loop = search needs in
     let found = other .before .before in
     clear-falls (here (found .before .before)) (found .highest .ensures) (some other) (removed .remove .ensures)
 
 loop-again : tie.Need-loop-again Inv-loop μ-loop
 loop-again c =
-    let removed = c .before .before .before .before .before .before .before .before in
-    let other = removed .before .before .before .before .before .before in
+    let removed : tie.After-remove Inv-loop μ-loop = search needs in
+    let other : tie.Else1 Inv-loop μ-loop = search needs in
     let found = other .before .before in
     let head = found .before .before in
     let inv = head .loop .inv in

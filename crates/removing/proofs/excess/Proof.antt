@@ -57,18 +57,18 @@ used-requires : tie.Need-used-requires
 used-requires c κs = search needs
 
 returns : tie.Need-returns
-returns c = omega (arith, places-are (c .before .before .before .before .before .before .pre) (c .before .before .used .ensures))
+returns c = let start : tie.Start = search needs in omega (arith, places-are (start .pre) (c .before .before .used .ensures))
 
 add-result : tie.Need-add-result
 add-result c =
-    let start = c .before .before .before .before .before .before in
+    let start : tie.Start = search needs in
     omega (arith, places-are (start .pre) (c .before .before .used .ensures), inside (start .pre), start .good)
 
 sub-result : tie.Need-sub-result
 sub-result c = search needs
 
 returns-2 : tie.Need-returns-2
-returns-2 c = omega (arith, places-are (c .before .before .before .before .before .before .before .pre) (c .before .before .before .used .ensures))
+returns-2 c = let start : tie.Start = search needs in omega (arith, places-are (start .pre) (c .before .before .before .used .ensures))
 
 pub excess-spec : {M : Type 1} → statement M
 excess-spec =

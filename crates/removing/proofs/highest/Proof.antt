@@ -1,3 +1,4 @@
+use borrow.Author.Needs.{needs}
 use native.Mathlib.Omega.{arith}
 use mathlib.Core.Path.{_≡_}
 use mathlib.Core.Logic.{⊎-elim}
@@ -13,23 +14,26 @@ Inv-loop r index degree k m w at₀ most₀ i₀ at most i = (i ≤ k) × IsHigh
 abbrev μ-loop : tie.MeasureT-loop
 μ-loop r index degree k m w at₀ most₀ i₀ at most i = k - i
 
+abbrev start : tie.At-loop Inv-loop μ-loop → tie.Start Inv-loop μ-loop
+start c = search needs
+
 loop-holds : tie.Need-loop-holds Inv-loop μ-loop
 loop-holds c = (omega arith, highest-start _)
 
 mul-t12 : tie.Need-mul-t12 Inv-loop μ-loop
-mul-t12 c = omega (arith, c .before .before .before .before .before .pre .index-room)
+mul-t12 c = omega (arith, start (c .before) .pre .index-room)
 
 shared-slice-read-t14 : tie.Need-shared-slice-read-t14 Inv-loop μ-loop
-shared-slice-read-t14 c = omega (arith, c .before .before .before .before .before .before .pre .index-room)
+shared-slice-read-t14 c = omega (arith, start (c .before .before) .pre .index-room)
 
 mul-t16 : tie.Need-mul-t16 Inv-loop μ-loop
-mul-t16 c = omega (arith, c .before .before .before .before .before .before .pre .degree-room)
+mul-t16 c = omega (arith, start (c .before .before) .pre .degree-room)
 
 shared-slice-read-t18 : tie.Need-shared-slice-read-t18 Inv-loop μ-loop
-shared-slice-read-t18 c = omega (arith, c .before .before .before .before .before .before .before .pre .degree-room)
+shared-slice-read-t18 c = omega (arith, start (c .before .before .before) .pre .degree-room)
 
 excess-requires : tie.Need-excess-requires Inv-loop μ-loop
-excess-requires c κs = c .before .before .before .before .before .before .before .pre .rows _ (c .before .before .loop-test .taken)
+excess-requires c κs = start (c .before .before .before) .pre .rows _ (omega arith)
 
 add-i : tie.Need-add-i Inv-loop μ-loop
 add-i c = omega arith
@@ -39,10 +43,10 @@ loop-less c = omega arith
 
 loop-again : tie.Need-loop-again Inv-loop μ-loop
 loop-again c =
-    let inv = c .before .before .before .before .before .loop .inv in
+    let head : tie.At-loop Inv-loop μ-loop = search needs in
     let found = c .before .excess .ensures in
-    let new = highest-new (inv .1) in
-    let old = highest-old (inv .1) in (
+    let new = highest-new (head .loop .inv .1) in
+    let old = highest-old (head .loop .inv .1) in (
       omega arith,
       ⊎-elim
           (λ w. rw (w .1, w .2, found) (new (omega (arith, w .0 .taken, found))))
@@ -53,7 +57,7 @@ loop-again c =
 returns : tie.Need-returns Inv-loop μ-loop
 returns c =
     let head = c .before .loop in
-    let all : head .i ≡ c .before .before .before .before .before .args .k = omega arith in
+    let all : head .i ≡ start (c .before) .args .k = omega arith in
     rw all at (head .inv .1)
 
 pub highest-spec : {M : Type 1} → statement M

@@ -36,7 +36,8 @@ coefficient-requires-2 c κs = search needs
 divide-requires : tie.Need-divide-requires
 divide-requires c κs =
     let first = c .before .before .before in
-    let pre = first .before .before .before .before .before .before .before .before .before .before .pre in
+    let start : tie.Start = search needs in
+    let pre = start .pre in
     record {
       ready = pre .ready;
       prime = pre .prime;
@@ -46,22 +47,18 @@ divide-requires c κs =
     }
 
 mul-t26 : tie.Need-mul-t26
-mul-t26 c =
-    let start = c .before .before .before .before .before .before .before .before .before .before .before .before .before .before in
-    omega (arith, start .pre .move .cell-room, start .good)
+mul-t26 c = let start : tie.Start = search needs in omega (arith, start .pre .move .cell-room, start .good)
 
 sub-t19 : tie.Need-sub-t19
 sub-t19 c = search needs
 
 add-t21 : tie.Need-add-t21
 add-t21 c =
-    let start = c .before .before .before .before .before .before .before .before .before .before .before .before .before .before in
+    let start : tie.Start = search needs in
     omega (arith, start .pre .move .cell-room, one-line (start .args .n) (start .args .w) (omega (arith, start .pre .move .k-fits)), start .good)
 
 mul-t31 : tie.Need-mul-t31
-mul-t31 c =
-    let start = c .before .before .before .before .before .before .before .before .before .before .before .before .before .before in
-    omega (arith, start .pre .k-room, start .good)
+mul-t31 c = let start : tie.Start = search needs in omega (arith, start .pre .k-room, start .good)
 
 shared-slice-read-t33 : tie.Need-shared-slice-read-t33
 shared-slice-read-t33 c = search needs
@@ -71,9 +68,9 @@ sub-t34 c = search needs
 
 subtract-requires : tie.Need-subtract-requires
 subtract-requires c κs =
-    let divided = c .before .before .before .before .before in
-    let pre = divided .before .before .before .before .before .before .before .before .before .before .before .before .before .before .pre in
-    subtract-asked (pre .ready) (pre .move) (divided .divide .ensures)
+    let start : tie.Start = search needs in
+    let divided : tie.After-divide = search needs in
+    subtract-asked (start .pre .ready) (start .pre .move) (divided .divide .ensures)
 
 same-length : tie.Need-same-length
 same-length c = search needs
@@ -89,13 +86,14 @@ same-length-4 c = search needs
 
 returns : tie.Need-returns
 returns c =
-    let subtracted = c .before .before .before .before .before .before .before .before in
-    let divided = subtracted .before .before .before .before .before .before in
+    let first : tie.After-coefficient = search needs in
+    let divided : tie.After-divide = search needs in
+    let subtracted : tie.After-subtract = search needs in
     record {
       e = divided .divide .result .e;
       c = divided .divide .result .c .0;
       f = divided .divide .result .f .0;
-      divided = rw (← divided .before .before .before .before .coefficient .ensures, ← divided .before .coefficient2 .ensures) (divided .divide .ensures);
+      divided = rw (← first .coefficient .ensures, ← divided .before .coefficient2 .ensures) (divided .divide .ensures);
       subtracted = subtracted .subtract .ensures;
     }
 

@@ -18,11 +18,13 @@ use Rattle.rows.proofs.add_cell.Tie as tie
 module _ (p reciprocal c e w top to from : ℕ) (b spare room : List ℕ) (pre : CellPair p reciprocal c e w top to from b spare)
     (aside : take top room ≡ part from top b) where
   lent : Multiple p reciprocal c e (take (to + w - to) (drop to b)) (take top room)
-  lent = rw aside (cell-lent p reciprocal c e w top to b _ (pre .to-fits) (pre .multiplier) (pre .to-residues) (pre .from-residues) (length-part from top b (pre .from-fits)))
+  lent = rw aside (cell-lent p reciprocal c e w top to b _ (pre .to-fits) (pre .multiplier) (pre .to-residues) (pre .from-residues)
+      (length-part from top b (pre .from-fits)))
 
   back : (new : List ℕ) → new ≡ plusMultiple p c e (take top room) (take (to + w - to) (drop to b))
       → CellAdded p c e w to from b b (take to b ++ (new ++ drop (to + w - to) (drop to b)))
-  back new new-is = cell-back p reciprocal c e w top to b _ (pre .to-fits) from b (shifted-part e w top from b (pre .from-fits) (pre .short)) new (rw aside at new-is)
+  back new new-is = cell-back p reciprocal c e w top to b _ (pre .to-fits) from b
+      (shifted-part e w top from b (pre .from-fits) (pre .short)) new (rw aside at new-is)
 
 set-aside-requires : tie.Need-set-aside-requires
 set-aside-requires c κs = search needs
@@ -49,9 +51,7 @@ slice-aggregate-add-multiple : tie.Need-slice-aggregate-add-multiple
 slice-aggregate-add-multiple c = sym (length-take-le _ _ (omega arith))
 
 add-multiple-requires : tie.Need-add-multiple-requires
-add-multiple-requires c κs =
-    let kept = c .before .before .before .before in
-    lent _ _ _ _ _ _ _ _ _ _ _ (kept .before .before .before .before .before .pre) (kept .set-aside .ensures)
+add-multiple-requires c κs = search (needs, lent)
 
 same-length : tie.Need-same-length
 same-length c = search needs
@@ -60,10 +60,7 @@ same-length-2 : tie.Need-same-length-2
 same-length-2 c = search needs
 
 returns : tie.Need-returns
-returns c =
-    let called = c .before .before in
-    let kept = called .before .before .before .before .before in
-    back _ _ _ _ _ _ _ _ _ _ _ (kept .before .before .before .before .before .pre) (kept .set-aside .ensures) _ (called .add-multiple .ensures)
+returns c = search (needs, back)
 
 pub add-cell-spec : {M : Type 1} → statement M
 add-cell-spec =

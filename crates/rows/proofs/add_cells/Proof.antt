@@ -1,3 +1,4 @@
+use borrow.Author.Needs.{needs}
 use native.Mathlib.Omega.{arith}
 use mathlib.Core.Path.{_≡_, refl, sym, _∙_}
 use mathlib.Core.Logic.{_≢_}
@@ -49,23 +50,23 @@ Inv-loop buf₀ spare₀ to from stride count w top c e md i₀ buf spare i =
 abbrev μ-loop : tie.MeasureT-loop
 μ-loop buf₀ spare₀ to from stride count w top c e md i₀ buf spare i = count - i
 
+abbrev start : tie.In-loop Inv-loop μ-loop → tie.Start Inv-loop μ-loop
+start c = search needs
+
 loop-holds : tie.Need-loop-holds Inv-loop μ-loop
 loop-holds c = (writing-start, refl)
 
 mul-done : tie.Need-mul-done Inv-loop μ-loop
-mul-done c = let start = c .before .before .before .before in omega (arith, start .pre .to-fits _ (c .loop-test .taken))
+mul-done c = omega (arith, start c .pre .to-fits _ (c .loop-test .taken))
 
 add-add-cell : tie.Need-add-add-cell Inv-loop μ-loop
-add-add-cell c = let turning = c .before .before in omega (arith, turning .before .before .before .before .pre .to-fits _ (turning .loop-test .taken))
+add-add-cell c = let turning = c .before .before in omega (arith, start turning .pre .to-fits _ (turning .loop-test .taken))
 
 add-add-cell-2 : tie.Need-add-add-cell-2 Inv-loop μ-loop
-add-add-cell-2 c = let turning = c .before .before in omega (arith, turning .before .before .before .before .pre .from-fits _ (turning .loop-test .taken))
+add-add-cell-2 c = let turning = c .before .before in omega (arith, start turning .pre .from-fits _ (turning .loop-test .taken))
 
 add-cell-requires : tie.Need-add-cell-requires Inv-loop μ-loop
-add-cell-requires c κs =
-    let turning = c .before .before in
-    let inv = turning .before .loop .inv in
-    pair _ _ _ _ _ _ _ _ _ _ _ _ _ (turning .before .before .before .before .pre) _ (inv .0) (turning .loop-test .taken) _ (inv .1)
+add-cell-requires c κs = search (needs, pair)
 
 add-i : tie.Need-add-i Inv-loop μ-loop
 add-i c = omega arith
@@ -74,13 +75,7 @@ loop-less : tie.Need-loop-less Inv-loop μ-loop
 loop-less c = omega arith
 
 loop-again : tie.Need-loop-again Inv-loop μ-loop
-loop-again c =
-    let called = c .before .before .before .before in
-    let turning = called .before .before .before in
-    let inv = turning .before .loop .inv in (
-      turn _ _ _ _ _ _ _ _ _ _ _ _ _ (turning .before .before .before .before .pre) _ (inv .0) (turning .loop-test .taken) _ (called .add-cell .ensures),
-      called .add-cell .kept .1 .0 ∙ inv .1,
-    )
+loop-again c = (search (needs, turn), search needs)
 
 same-length : tie.Need-same-length Inv-loop μ-loop
 same-length c = c .before .loop .inv .0 .done .size

@@ -8,13 +8,13 @@ mul-size : tie.Need-mul-size
 mul-size c = omega (arith, line-ends (c .before .before .pre))
 
 mul-add-cells : tie.Need-mul-add-cells
-mul-add-cells c = omega (arith, line-ends (c .before .before .before .before .pre))
+mul-add-cells c = let start : tie.Start = search needs in omega (arith, line-ends (start .pre))
 
 mul-add-cells-2 : tie.Need-mul-add-cells-2
-mul-add-cells-2 c = omega (arith, line-ends (c .before .before .before .before .pre))
+mul-add-cells-2 c = let start : tie.Start = search needs in omega (arith, line-ends (start .pre))
 
 add-cells-requires : tie.Need-add-cells-requires
-add-cells-requires c κs = line-cells (column-lines _ _) (c .before .before .before .before .pre)
+add-cells-requires c κs = let start : tie.Start = search needs in line-cells (column-lines _ _) (start .pre)
 
 same-length : tie.Need-same-length
 same-length c = search needs
@@ -23,7 +23,7 @@ same-length-2 : tie.Need-same-length-2
 same-length-2 c = search needs
 
 returns : tie.Need-returns
-returns c = line-added (column-lines _ _) _ _ _ _ _ _ _ (c .before .before .before .before .add-cells .ensures)
+returns c = line-added (column-lines _ _) _ _ _ _ _ _ _ (search needs)
 
 pub add-column-spec : {M : Type 1} → statement M
 add-column-spec =

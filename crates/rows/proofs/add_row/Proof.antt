@@ -76,9 +76,7 @@ slice-aggregate-add-to-row : tie.Need-slice-aggregate-add-to-row
 slice-aggregate-add-to-row c = sym (length-take-le _ _ (omega arith))
 
 add-to-row-requires : tie.Need-add-to-row-requires
-add-to-row-requires c κs =
-    let kept = c .before .before .before .before in
-    lent _ _ _ _ _ _ _ _ _ _ _ _ (kept .before .before .before .before .before .pre) (kept .set-aside .ensures)
+add-to-row-requires c κs = search (needs, lent)
 
 same-length : tie.Need-same-length
 same-length c = search needs
@@ -87,10 +85,7 @@ same-length-2 : tie.Need-same-length-2
 same-length-2 c = search needs
 
 returns : tie.Need-returns
-returns c =
-    let called = c .before .before in
-    let kept = called .before .before .before .before .before in
-    back _ _ _ _ _ _ _ _ _ _ _ _ (kept .before .before .before .before .before .pre) (kept .set-aside .ensures) _ (called .add-to-row .ensures)
+returns c = search (needs, back)
 
 pub add-row-spec : {M : Type 1} → statement M
 add-row-spec =

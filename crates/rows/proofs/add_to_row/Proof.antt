@@ -1,3 +1,4 @@
+use borrow.Author.Needs.{needs}
 use native.Mathlib.Omega.{arith}
 use mathlib.Core.Path.{_≡_, refl}
 use mathlib.Core.Logic.{_≢_}
@@ -46,8 +47,8 @@ Inv-loop row₀ other m w top c e md j₀ row j = Adding (md .p) (c .0) e w m (i
 abbrev μ-loop : tie.MeasureT-loop
 μ-loop row₀ other m w top c e md j₀ row j = m - j
 
-ends : (c : tie.In-loop Inv-loop μ-loop) → c .before .loop .j * c .before .before .before .before .args .w + c .before .before .before .before .args .w
-    ≤ c .before .before .before .before .args .m * c .before .before .before .before .args .w
+ends : (c : tie.In-loop Inv-loop μ-loop) → let start : tie.Start Inv-loop μ-loop = search needs in let args = start .args in
+    c .before .loop .j * args .w + args .w ≤ args .m * args .w
 ends c = line-end _ _ _ (c .loop-test .taken)
 
 loop-holds : tie.Need-loop-holds Inv-loop μ-loop
@@ -87,9 +88,7 @@ part-add-multiple-end-2 : tie.Need-part-add-multiple-end-2 Inv-loop μ-loop
 part-add-multiple-end-2 c = omega (arith, ends (c .before))
 
 add-multiple-requires : tie.Need-add-multiple-requires Inv-loop μ-loop
-add-multiple-requires c κs =
-    let turning = c .before .before in
-    lent _ _ _ _ _ _ _ _ _ _ (turning .before .before .before .before .pre) _ (turning .before .loop .inv) (turning .loop-test .taken)
+add-multiple-requires c κs = search (needs, lent)
 
 add-j : tie.Need-add-j Inv-loop μ-loop
 add-j c = omega arith
@@ -98,10 +97,7 @@ loop-less : tie.Need-loop-less Inv-loop μ-loop
 loop-less c = omega arith
 
 loop-again : tie.Need-loop-again Inv-loop μ-loop
-loop-again c =
-    let called = c .before .before in
-    let turning = called .before .before .before in
-    turn _ _ _ _ _ _ _ _ _ _ (turning .before .before .before .before .pre) _ (turning .before .loop .inv) (turning .loop-test .taken) _ (called .add-multiple .ensures)
+loop-again c = search (needs, turn)
 
 same-length : tie.Need-same-length Inv-loop μ-loop
 same-length c = c .before .loop .inv .done .size

@@ -44,13 +44,13 @@ slice-aggregate-copy : tie.Need-slice-aggregate-copy
 slice-aggregate-copy c = sym (length-take-le _ _ (omega arith))
 
 copy-requires : tie.Need-copy-requires
-copy-requires c κs = same _ _ _ _ (c .before .before .before .before .pre)
+copy-requires c κs = search (needs, same)
 
 same-length : tie.Need-same-length
 same-length c = search needs
 
 returns : tie.Need-returns
-returns c = let called = c .before .before in aside _ _ _ _ (called .before .before .before .before .before .pre) _ (called .copy .ensures)
+returns c = search (needs, aside)
 
 pub set-aside-spec : {M : Type 1} → statement M
 set-aside-spec =

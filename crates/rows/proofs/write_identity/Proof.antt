@@ -43,7 +43,8 @@ module _ (n w : ℕ) (u : List ℕ) (i : ℕ) (now : WritingOnes n w u i) (li : 
         done = rw at-is (record {
           size = length-set u _ 1 ∙ now .done .size;
           one = λ j lj. case-le (suc j) i
-              (λ before. getD-set-other u _ _ 1 0 (λ same. omega (arith, place-own n w j j 0 i i 0 (omega arith) some li some same .0)) ∙ now .done .one j before)
+              (λ before. getD-set-other u _ _ 1 0 (λ same. omega (arith, place-own n w j j 0 i i 0 (omega arith) some li some same .0))
+              ∙ now .done .one j before)
               (λ from-i. let here : j ≡ i = omega arith in rw here (getD-set-same u _ 1 0 (inside .0)));
           others = λ x elsewhere. getD-set-other u _ x 1 0 (elsewhere i (omega arith)) ∙ now .done .others x (λ j lj. elsewhere j (omega arith));
         });
@@ -60,8 +61,8 @@ clear-requires c κs = search needs
 
 loop-holds : tie.Need-loop-holds Inv-loop μ-loop
 loop-holds c =
-    let pre = c .before .before .before .before .before .pre in
-    record { reached = omega arith; some = pre .some; done = cleared _ _ _ _ (pre .size) (c .before .before .clear .ensures) }
+    let start : tie.Start Inv-loop μ-loop = search needs in
+    record { reached = omega arith; some = start .pre .some; done = cleared _ _ _ _ (start .pre .size) (c .before .before .clear .ensures) }
 
 mul-at : tie.Need-mul-at Inv-loop μ-loop
 mul-at c = omega (arith, inside _ _ _ _ (c .before .loop .inv) (c .loop-test .taken))
@@ -95,7 +96,8 @@ same-length c = search needs
 
 returns : tie.Need-returns Inv-loop μ-loop
 returns c =
-    let all : c .before .loop .i ≡ c .before .before .before .before .before .before .before .args .n = omega arith in
+    let start : tie.Start Inv-loop μ-loop = search needs in
+    let all : c .before .loop .i ≡ start .args .n = omega arith in
     rw all at (c .before .loop .inv .done)
 
 pub write-identity-spec : {M : Type 1} → statement M

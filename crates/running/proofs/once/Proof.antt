@@ -11,17 +11,19 @@ use borrow.Author.Needs.{needs}
 use Rattle.running.proofs.once.Statement.{statement}
 use Rattle.running.proofs.once.Tie as tie
 
+-- where the function starts, seen from the pivots
+abbrev start : tie.After-all → tie.Start
+start c = search needs
+
 -- the pivots
-at-hand : (c : tie.After-all) → let args = c .before .before .before .before .before .before .before .before .args in
+at-hand : (c : tie.After-all) → let args = start c .args in
     PivotLists (args .n) (args .m) (args .w) (now (args .r)) (c .all .last .1 .0) (c .all .last .1 .1 .0)
-at-hand c =
-    let made = c .before .before .before .before in
-    found (c .before .before .before .before .before .before .before .before .pre .bounds .rows-most) (made .before .eight .ensures .0) (made .eight2 .ensures .0) (c .all .kept .1 .0) (c .all .kept .1 .1 .0) (c .all .ensures)
+at-hand c = search (needs, found)
 
 -- the rows that the step is made on
-next : (c : tie.After-l) → let args = c .before .before .before .before .before .before .before .before .before .before .before .before .before .before .before .args in
+next : (c : tie.After-l) → let args = start (search needs) .args in
     IsNextOf (args .n) (args .m) (valuesOf (args .m) (args .w) (now (args .r))) (Rows (c .l .given .0 .0) (c .l .given .0 .1 .0))
-next c = next-is _ _ _ _ _ (c .before .before .before .before .before .before .before .all .ensures) _ _ (c .before .before .next-rows .ensures) (c .l .given .1)
+next c = search (needs, next-is)
 
 room-requires : tie.Need-room-requires
 room-requires c κs = search needs
@@ -48,7 +50,7 @@ slice-aggregate-next-rows-2 : tie.Need-slice-aggregate-next-rows-2
 slice-aggregate-next-rows-2 c = search needs
 
 next-rows-requires : tie.Need-next-rows-requires
-next-rows-requires c κs = let all = c .before .before .before .before in choice-asked (all .before .before .before .before .before .before .before .before .pre) (at-hand all)
+next-rows-requires c κs = search (needs, choice-asked, at-hand)
 
 enum-known-l : tie.Need-enum-known-l
 enum-known-l c = search needs
@@ -61,8 +63,8 @@ same-length c = search needs
 
 returns : tie.Need-returns
 returns c =
-    let all = c .before .before .before .before .before .before .before in
-    stepped-none (all .before .before .before .before .before .before .before .before .pre) (next-is _ _ _ _ _ (all .all .ensures) _ _ (c .before .before .next-rows .ensures) (c .enum-told .given .1))
+    let all : tie.After-all = search needs in
+    stepped-none (start all .pre) (next-is _ _ _ _ _ (all .all .ensures) _ _ (c .before .before .next-rows .ensures) (c .enum-told .given .1))
 
 slice-aggregate-plan : tie.Need-slice-aggregate-plan
 slice-aggregate-plan c = search needs
@@ -71,34 +73,29 @@ slice-aggregate-plan-2 : tie.Need-slice-aggregate-plan-2
 slice-aggregate-plan-2 c = search needs
 
 plan-requires : tie.Need-plan-requires
-plan-requires c κs =
-    let chosen = c .before .before .before .before in
-    let all = chosen .before .before .before .before .before .before .before in
-    planning-asked (all .before .before .before .before .before .before .before .before .pre) (next chosen) (at-hand all)
+plan-requires c κs = search (needs, planning-asked, next, at-hand)
 
 slice-aggregate-add-row : tie.Need-slice-aggregate-add-row
-slice-aggregate-add-row c = sym (c .before .before .before .before .before .before .before .before .before .before .before .before .before .before .before .before .before .before .before .before .room .ensures .0)
+slice-aggregate-add-row c = let lent : tie.After-room = search needs in sym (lent .room .ensures .0)
 
 mul-add-row : tie.Need-mul-add-row
-mul-add-row c = let chosen = c .before .before .before .before .before .before .before in omega (arith, k-room (chosen .before .before .before .before .before .before .before .before .before .before .before .before .before .before .before .pre) (next chosen))
+mul-add-row c = omega (arith, k-room (start (search needs) .pre) (next (search needs)))
 
 array-read-add-row : tie.Need-array-read-add-row
-array-read-add-row c = let chosen = c .before .before .before .before .before .before .before in omega (arith, k-room (chosen .before .before .before .before .before .before .before .before .before .before .before .before .before .before .before .pre) (next chosen))
+array-read-add-row c = omega (arith, k-room (start (search needs) .pre) (next (search needs)))
 
 add-row-requires : tie.Need-add-row-requires
 add-row-requires c κs =
-    let chosen = c .before .before .before .before .before .before .before in
-    let all = chosen .before .before .before .before .before .before .before in
-    subtraction-asked (all .before .before .before .before .before .before .before .before .pre) (next chosen) (at-hand all) (c .before .before .plan .ensures) (all .before .before .before .before .before .before .room .ensures .0)
+    subtraction-asked (start (search needs) .pre) (next (search needs)) (at-hand (search needs)) (c .before .before .plan .ensures)
+    (let lent : tie.After-room = search needs in lent .room .ensures .0)
 
 same-length-2 : tie.Need-same-length-2
 same-length-2 c = search needs
 
 returns-2 : tie.Need-returns-2
 returns-2 c =
-    let chosen = c .before .before .before .before .before .before .before .before .before .before .before in
-    let all = chosen .before .before .before .before .before .before .before in
-    stepped-pair (all .before .before .before .before .before .before .before .before .pre) (next chosen) (at-hand all) (c .before .before .before .before .before .before .plan .ensures) (c .before .before .before .add-row .ensures)
+    stepped-pair (start (search needs) .pre) (next (search needs)) (at-hand (search needs))
+    (let planned : tie.After-plan = search needs in planned .plan .ensures) (search needs)
 
 pub once-spec : {M : Type 1} → statement M
 once-spec =

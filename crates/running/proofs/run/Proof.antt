@@ -7,12 +7,14 @@ use borrow.Author.Needs.{needs}
 use Rattle.running.proofs.run.Statement.{statement}
 use Rattle.running.proofs.run.Tie as tie
 
+-- where the function starts, seen from the pivots
+abbrev start : tie.After-all → tie.Start
+start c = search needs
+
 -- the pivots
-at-hand : (c : tie.After-all) → let args = c .before .before .before .before .before .before .before .before .before .before .args in
+at-hand : (c : tie.After-all) → let args = start c .args in
     PivotLists (args .n) (args .m) (args .w) (now (args .r)) (c .all .last .1 .0) (c .all .last .1 .1 .0)
-at-hand c =
-    let made = c .before .before .before .before in
-    found (c .before .before .before .before .before .before .before .before .before .before .pre .input .bounds .rows-most) (made .before .eight .ensures .0) (made .eight2 .ensures .0) (c .all .kept .1 .0) (c .all .kept .1 .1 .0) (c .all .ensures)
+at-hand c = search (needs, found)
 
 room-requires : tie.Need-room-requires
 room-requires c κs = search needs
@@ -42,18 +44,13 @@ slice-aggregate-repeat-3 : tie.Need-slice-aggregate-repeat-3
 slice-aggregate-repeat-3 c = search needs
 
 repeat-requires : tie.Need-repeat-requires
-repeat-requires c κs =
-    let all = c .before .before .before .before .before .before .before .before in
-    repeat-asked (all .before .before .before .before .before .before .before .before .before .before .pre) (all .before .before .before .before .before .before .room .ensures .0) (at-hand all)
+repeat-requires c κs = repeat-asked (start (search needs) .pre) (search needs) (at-hand (search needs))
 
 slice-aggregate-list : tie.Need-slice-aggregate-list
 slice-aggregate-list c = search needs
 
 list-requires : tie.Need-list-requires
-list-requires c κs =
-    let ran = c .before .before .before .before .before .before .before .before .before .before in
-    let all = ran .before .before .before .before .before .before .before .before .before in
-    record { few = all .before .before .before .before .before .before .before .before .before .before .pre .input .bounds .rows-most; room = omega (arith, ran .repeat .kept .1 .1 .1 .1 .0, at-hand all .index-room) }
+list-requires c κs = record { few = start (search needs) .pre .input .bounds .rows-most; room = omega (arith, at-hand (search needs) .index-room) }
 
 same-length : tie.Need-same-length
 same-length c = search needs
@@ -65,7 +62,7 @@ same-length-3 : tie.Need-same-length-3
 same-length-3 c = search needs
 
 returns : tie.Need-returns
-returns c = is-done (c .before .before .before .before .before .before .before .before .before .before .before .repeat .ensures) (c .list .ensures)
+returns c = search (needs, is-done)
 
 pub run-spec : {M : Type 1} → statement M
 run-spec =

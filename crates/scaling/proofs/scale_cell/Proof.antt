@@ -74,10 +74,7 @@ same-length : tie.Need-same-length
 same-length c = search needs
 
 returns : tie.Need-returns
-returns c =
-    let called = c .before .before in
-    let counted = called .before .before in
-    back _ _ _ _ _ _ (counted .before .before .before .before .pre .fits) (counted .used .ensures .0) _ (called .scale .ensures)
+returns c = search (needs, back)
 
 pub scale-cell-spec : {M : Type 1} → statement M
 scale-cell-spec =

@@ -1,4 +1,3 @@
-use mathlib.Core.Path.{_∙_}
 use Rattle.stages.proofs.Whole.{lay-asked, stages-asked, is-determinant}
 use borrow.Author.Needs.{needs}
 use Rattle.stages.proofs.determinant.Statement.{statement}
@@ -38,9 +37,7 @@ slice-aggregate-lay-2 : tie.Need-slice-aggregate-lay-2
 slice-aggregate-lay-2 c = search needs
 
 lay-requires : tie.Need-lay-requires
-lay-requires c κs =
-    let made = c .before .before .before in
-    lay-asked (made .before .before .before .before .before .before .before .before .pre) (made .before .before .before .before .before .columns .ensures .0) (made .before .before .before .cells .ensures .0)
+lay-requires c κs = search (needs, lay-asked)
 
 slice-aggregate-run : tie.Need-slice-aggregate-run
 slice-aggregate-run c = search needs
@@ -61,20 +58,16 @@ slice-aggregate-run-6 : tie.Need-slice-aggregate-run-6
 slice-aggregate-run-6 c = search needs
 
 run-requires : tie.Need-run-requires
-run-requires c κs =
-    let laid = c .before .before .before .before .before .before .before .before .before .before .before in
-    let made = laid .before .before .before .before in
-    stages-asked (made .before .before .before .before .before .before .before .before .pre) (laid .lay .ensures) (laid .lay .kept .1 .0 ∙ made .before .before .before .before .before .columns .ensures .0) (laid .lay .kept .1 .1 .0 ∙ made .before .before .before .cells .ensures .0)
-    (made .before .before .before .before .columns2 .ensures .0) (made .before .before .room .ensures .0) (made .before .eight .ensures .0) (made .eight2 .ensures .0)
+run-requires c κs = search (needs, stages-asked)
 
 same-length : tie.Need-same-length
 same-length c = search needs
 
 returns : tie.Need-returns
 returns c =
-    let ran = c .before .before .before .before .before .before .before .before in
-    let laid = ran .before .before .before .before .before .before .before .before .before .before .before .before in
-    is-determinant (laid .before .before .before .before .before .before .before .before .before .before .before .before .pre) (laid .lay .ensures) (ran .run .ensures)
+    let laid : tie.After-lay = search needs in
+    let start : tie.Start = search laid in
+    is-determinant (start .pre) (laid .lay .ensures) (search needs)
 
 pub determinant-spec : {M : Type 1} → statement M
 determinant-spec =

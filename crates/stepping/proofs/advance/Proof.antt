@@ -30,23 +30,24 @@ slice-read-t25 : tie.Need-slice-read-t25
 slice-read-t25 c = search needs
 
 add-t27 : tie.Need-add-t27
-add-t27 c = let start = c .before .before .before .before .before .before .before .before .before .before .before .before in omega (arith, width-small (start .pre), start .good)
+add-t27 c = omega (arith, width-small)
 
 sub-t28 : tie.Need-sub-t28
 sub-t28 c = search needs
 
 subtract-requires : tie.Need-subtract-requires
 subtract-requires c κs =
-    let planned = c .before .before .before .before .before .before in
-    let asked = planned .before .before .before .before .before .before .before .before .before .before .pre in
-    subtract-asked (asked .plan .ready) (asked .move) (planned .plan .ensures)
+    let planned : tie.After-plan = search needs in
+    let start : tie.Start = search needs in
+    subtract-asked (start .pre .plan .ready) (start .pre .move) (planned .plan .ensures)
 
 renew-requires : tie.Need-renew-requires
 renew-requires c κs =
-    let subtracted = c .before .before .before .before .before .before .before .before .before .before .before in
-    let planned = subtracted .before .before .before .before .before .before .before in
-    let asked = planned .before .before .before .before .before .before .before .before .before .before .pre in
-    renew-asked _ _ _ _ _ _ _ _ _ (asked .plan) _ _ _ (planned .plan .ensures) _ (subtracted .subtract .ensures .r-move) (asked .columns) (asked .l-short) (asked .move .r-short)
+    let subtracted : tie.After-subtract = search needs in
+    let planned : tie.After-plan = search needs in
+    let start : tie.Start = search needs in
+    renew-asked _ _ _ _ _ _ _ _ _ (start .pre .plan) _ _ _ (planned .plan .ensures) _ (subtracted .subtract .ensures .r-move)
+    (search needs) (search needs) (search needs)
 
 same-length : tie.Need-same-length
 same-length c = search needs

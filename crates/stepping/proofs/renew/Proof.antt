@@ -31,7 +31,7 @@ part-of-end c = search needs
 
 of-requires : tie.Need-of-requires
 of-requires c κs =
-    let start = c .before .before .before .before in
+    let start : tie.Start = search needs in
     row-asked _ _ _ _ (start .args .l) _ refl (start .pre .columns) (start .pre .row) (start .pre .within) (start .pre .short .zero)
 
 mul-index : tie.Need-mul-index
@@ -54,7 +54,7 @@ same-length-2 c = search needs
 
 returns : tie.Need-returns
 returns c =
-    let start = c .before .before .before .before .before in
+    let start : tie.Start = search needs in
     let same = ap (valueOf (start .args .m) (start .args .w)) (row-part (start .args .m) (start .args .w) _ (start .args .l) (now (start .args .r)) refl) in
     record {
       indices-are = ap (set (now (start .args .index)) (start .args .l)) (c .of .ensures .index-is ∙ ap (index (start .args .m)) same);

@@ -1,25 +1,20 @@
 use borrow.Author.Needs.{needs}
-use mathlib.Core.Path.{_∙_}
+use native.Mathlib.Omega.{arith}
 use Rattle.stepping.proofs.Following.{r-asked, u-asked, v-asked}
 use Rattle.stepping.proofs.subtract.Statement.{statement}
 use Rattle.stepping.proofs.subtract.Tie as tie
 
 add-row-requires : tie.Need-add-row-requires
-add-row-requires c κs = r-asked (c .before .before .before .before .before .before .pre)
+add-row-requires c κs = search (needs, r-asked)
 
 mul-add-row-by-cells : tie.Need-mul-add-row-by-cells
 mul-add-row-by-cells c = search needs
 
 add-row-by-cells-requires : tie.Need-add-row-by-cells-requires
-add-row-by-cells-requires c κs =
-    let added = c .before .before .before .before .before .before in
-    u-asked (added .before .before .before .before .before .before .before .pre) _ (added .add-row .kept .1 .0)
+add-row-by-cells-requires c κs = search (needs, u-asked)
 
 add-column-requires : tie.Need-add-column-requires
-add-column-requires c κs =
-    let followed = c .before .before .before .before .before .before in
-    let added = followed .before .before .before .before .before .before .before in
-    v-asked (added .before .before .before .before .before .before .before .pre) _ (followed .add-row-by-cells .kept .1 .0 ∙ added .add-row .kept .1 .0)
+add-column-requires c κs = let start : tie.Start = search needs in v-asked (start .pre) _ (omega arith)
 
 same-length : tie.Need-same-length
 same-length c = search needs

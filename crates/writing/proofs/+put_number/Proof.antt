@@ -1,7 +1,7 @@
 -- The last digit is written after the others, which the call at a tenth of the number writes. The measure is the number.
-use mathlib.Core.Path.{_∙_}
 use Prim.Native.Nat.{ℕ, _<_}
 use native.Mathlib.Omega.{arith}
+use borrow.Author.Needs.{needs}
 use borrow.Fn.Kinds.{In, Out}
 use borrow.Fn.PlainCycle.{Measures, is, falls, and}
 use Rattle.format.proofs.Number.{tenth}
@@ -43,8 +43,8 @@ put-number-digit-of-requires t c κs = c .before .if1 .taken
 
 put-number-put-byte-requires : (t : ℕ) → put-number-lts.Need-put-byte-requires (calls t) (put-number-at t) put-number.Post
 put-number-put-byte-requires t c κs =
-    let start = c .before .before .before .before in
-    one-room (start .args .v) (c .before .before .if1 .taken) (c .digit-of .ensures) (start .pre .1)
+    let test = c .before .before in
+    one-room (test .before .before .args .v) (test .if1 .taken) (c .digit-of .ensures) (test .before .before .pre .1)
 
 put-number-same-length : (t : ℕ) → put-number-lts.Need-same-length (calls t) (put-number-at t) put-number.Post
 put-number-same-length t c = c .before .before .put-byte .kept .0
@@ -64,17 +64,17 @@ put-number-digit-of-requires-2 t c κs = omega arith
 
 put-number-put-byte-requires-2 : (t : ℕ) → put-number-lts.Need-put-byte-requires-2 (calls t) (put-number-at t) put-number.Post
 put-number-put-byte-requires-2 t c κs =
-    let call = c .before .before .before .before in
-    let start = call .before .before .before .before in
-    last-room (start .args .v) (call .before .before .if1 .left) (call .put-number .ensures) (c .digit-of2 .ensures) (start .pre .1)
+    let call : put-number-lts.After-put-number (calls t) (put-number-at t) put-number.Post = search needs in
+    let test = call .before .before in
+    last-room (test .before .before .args .v) (test .if1 .left) (call .put-number .ensures) (c .digit-of2 .ensures) (test .before .before .pre .1)
 
 put-number-same-length-2 : (t : ℕ) → put-number-lts.Need-same-length-2 (calls t) (put-number-at t) put-number.Post
-put-number-same-length-2 t c = c .before .before .put-byte2 .kept .0 ∙ c .before .before .before .before .before .before .before .put-number .kept .0
+put-number-same-length-2 t c = search needs
 
 put-number-returns-2 : (t : ℕ) → put-number-lts.Need-returns-2 (calls t) (put-number-at t) put-number.Post
 put-number-returns-2 t c =
     let put = c .before .before in
-    let call = put .before .before .before .before .before in
+    let call : put-number-lts.After-put-number (calls t) (put-number-at t) put-number.Post = search needs in
     last-digit _ (call .before .before .if1 .left) (call .put-number .ensures) (put .before .digit-of2 .ensures) (put .put-byte2 .ensures)
 
 pub +put-number-spec : {M : Type 1} → statement M

@@ -14,20 +14,19 @@ unfolding row
 one-row v = refl
 
 put-bytes-requires : tie.Need-put-bytes-requires
-put-bytes-requires c κs = first-room _ _ (c .before .before .before .pre)
+put-bytes-requires c κs = search (needs, first-room)
 
 put-marked-requires : tie.Need-put-marked-requires
 put-marked-requires c κs =
-    let key = c .before .before .before in
-    subst (Room _ _) (sym (one-row _)) (next-room _ _ (key .before .before .before .before .pre) (key .put-bytes .ensures))
+    subst (Room _ _) (sym (one-row _)) (search (needs, next-room))
 
 same-length : tie.Need-same-length
 same-length c = search needs
 
 returns : tie.Need-returns
 returns c =
-    let put = c .before .before in
-    wrote-then (put .before .before .before .before .put-bytes .ensures) (wrote-as (one-row _) (put .put-marked .ensures))
+    let key : tie.After-put-bytes = search needs in
+    wrote-then (key .put-bytes .ensures) (wrote-as (one-row _) (c .before .before .put-marked .ensures))
 
 pub put-field-spec : {M : Type 1} → statement M
 put-field-spec = tie.close (tie.spec put-bytes-requires put-marked-requires same-length returns)

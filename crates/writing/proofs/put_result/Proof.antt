@@ -23,7 +23,7 @@ abbrev μ-loop : tie.MeasureT-loop
 μ-loop out₀ at n m d r count width i₀ c₀ a₀ out i c a = count - c
 
 abbrev start : tie.In-loop Inv-loop μ-loop → tie.Start Inv-loop μ-loop
-start c = c .before .before .before .before
+start c = search needs
 
 -- the numbers of the next cell
 within : (c : tie.In-loop Inv-loop μ-loop) → c .before .loop .a + (start c .args .d + 1) ≤ length (start c .args .r .now)
@@ -85,7 +85,7 @@ loop-less c = omega arith
 loop-again : tie.Need-loop-again Inv-loop μ-loop
 loop-again c =
     let put = c .before .before in
-    let key = put .before .before .before .before in
+    let key : tie.After-cell-key Inv-loop μ-loop = search needs in
     let test = key .before in (
       omega (arith, test .before .loop .inv .0, suc-mul (test .before .loop .c) (start test .args .d + 1), add-one (test .before .loop .c)),
       begun-more (test .before .loop .inv .1) _ (lines-next _ _ _ _ _ _ (test .loop-test .taken))

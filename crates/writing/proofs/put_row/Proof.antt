@@ -38,7 +38,8 @@ sub-put-marked-2 c = omega arith
 put-marked-requires : tie.Need-put-marked-requires Inv-loop μ-loop
 put-marked-requires c κs =
     let test = c .before .before .before in
-    let room = begun-room (test .before .loop .inv) (test .before .before .before .before .pre) in
+    let start : tie.Start Inv-loop μ-loop = search needs in
+    let room = begun-room (test .before .loop .inv) (start .pre) in
     rw (c .wide .ensures) (first-room _ _ (subst (Room _ _) (row-next _ _ (test .loop-test .taken)) room))
 
 add-k : tie.Need-add-k Inv-loop μ-loop
@@ -50,7 +51,7 @@ loop-less c = omega arith
 loop-again : tie.Need-loop-again Inv-loop μ-loop
 loop-again c =
     let put = c .before .before in
-    let test = put .before .before .before .before in
+    let test : tie.In-loop Inv-loop μ-loop = search needs in
     begun-more (test .before .loop .inv) _ (row-next _ _ (test .loop-test .taken)) (rw (put .before .wide .ensures) at (put .put-marked .ensures))
 
 same-length : tie.Need-same-length Inv-loop μ-loop

@@ -21,15 +21,15 @@ shared-slice-read-t9 : tie.Need-shared-slice-read-t9 Inv-loop μ-loop
 shared-slice-read-t9 c = omega arith
 
 has-requires : tie.Need-has-requires Inv-loop μ-loop
-has-requires c κs = c .before .before .before .before .pre .few _ (c .before .loop-test .taken)
+has-requires c κs = let turn = c .before in turn .before .before .before .pre .few _ (turn .loop-test .taken)
 
 returns : tie.Need-returns Inv-loop μ-loop
 returns c =
-    let head = c .before .before .before .before in
-    says-yes (collecting-found _ _ _ _ (head .loop .inv) (c .before .before .before .loop-test .taken) (c .before .has .ensures .0 (c .if1 .taken)))
+    let turn = c .before .before .before in
+    says-yes (collecting-found _ _ _ _ (turn .before .loop .inv) (turn .loop-test .taken) (c .before .has .ensures .0 (c .if1 .taken)))
 
 with-requires : tie.Need-with-requires Inv-loop μ-loop
-with-requires c κs = c .before .before .before .before .before .before .pre .few _ (c .before .before .before .loop-test .taken)
+with-requires c κs = let turn = c .before .before .before in turn .before .before .before .pre .few _ (turn .loop-test .taken)
 
 add-i : tie.Need-add-i Inv-loop μ-loop
 add-i c = omega arith
@@ -40,7 +40,7 @@ loop-less c = omega arith
 loop-again : tie.Need-loop-again Inv-loop μ-loop
 loop-again c =
     let asked = c .before .before in
-    collecting-on _ _ _ _ (asked .before .before .before .loop .inv) _ (asked .before .before .loop-test .taken) (denied (asked .has .ensures) (c .before .if1 .left)) (c .with .ensures)
+    collecting-on _ _ _ _ (asked .before .before .before .loop .inv) _ (omega arith) (denied (asked .has .ensures) (c .before .if1 .left)) (c .with .ensures)
 
 returns-2 : tie.Need-returns-2 Inv-loop μ-loop
 returns-2 c = says-no (collecting-none _ _ _ _ (c .before .loop .inv) (c .loop-test .left))

@@ -16,7 +16,7 @@ loop-holds : tie.Need-loop-holds Inv-loop μ-loop
 loop-holds c = record { to = omega arith; none = λ i l. absurd (omega arith) }
 
 partner-requires : tie.Need-partner-requires Inv-loop μ-loop
-partner-requires c κs = (c .loop-test .taken, c .before .before .before .before .pre .indices-are .room)
+partner-requires c κs = omega arith
 
 mul-if2 : tie.Need-mul-if2 Inv-loop μ-loop
 mul-if2 c = omega arith
@@ -32,13 +32,13 @@ shared-slice-read-if2-2 c = omega arith
 
 returns : tie.Need-returns Inv-loop μ-loop
 returns c =
-    let called = c .before .before .before .before in
-    lower-found _ _ _ _ (called .before .before .loop .inv) (called .partner .ensures) _ _ _ (c .before .before .before .if1 .taken) (inl (c .if2 .taken, refl, refl))
+    let later = c .before .before .before in
+    lower-found _ _ _ _ (later .before .before .before .loop .inv) (later .before .partner .ensures) _ _ _ (later .if1 .taken) (inl (c .if2 .taken, refl, refl))
 
 returns-2 : tie.Need-returns-2 Inv-loop μ-loop
 returns-2 c =
-    let called = c .before .before .before .before in
-    lower-found _ _ _ _ (called .before .before .loop .inv) (called .partner .ensures) _ _ _ (c .before .before .before .if1 .taken) (inr (c .if2 .left, refl, refl))
+    let later = c .before .before .before in
+    lower-found _ _ _ _ (later .before .before .before .loop .inv) (later .before .partner .ensures) _ _ _ (later .if1 .taken) (inr (c .if2 .left, refl, refl))
 
 add-a : tie.Need-add-a Inv-loop μ-loop
 add-a c = omega arith

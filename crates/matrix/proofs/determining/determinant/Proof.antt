@@ -10,7 +10,7 @@ use Rattle.matrix.proofs.determining.determinant.Statement.{statement}
 use Rattle.matrix.proofs.determining.determinant.Tie as tie
 
 -- past the checks all is in order
-known : (c : tie.After-enum-told) → let args = c .before .before .before .before .before .args in
+known : (c : tie.After-enum-told) → let start : tie.Start = search needs in let args = start .args in
     DeterminantPassed (args .p) (args .n) (args .m) (args .d) (now (args .a)) (now (args .r))
 known c = record { told = subst (Verdict true _ _ _ _ _ _ _) (c .enum-told .given .1) (c .before .before .check-determinant .ensures) }
 
@@ -36,7 +36,7 @@ same-length : tie.Need-same-length
 same-length c = search needs
 
 returns-2 : tie.Need-returns-2
-returns-2 c = determinant-answered (known (c .before .before .before .before .before)) _ _ (c .before .before .before .of .ensures .0) (c .before .before .determinant .ensures)
+returns-2 c = determinant-answered (known (search needs)) _ _ (c .before .before .before .of .ensures .0) (c .before .before .determinant .ensures)
 
 pub determinant-spec : {M : Type 1} → statement M
 determinant-spec =

@@ -13,9 +13,13 @@ use Rattle.matrix.proofs.reducing.reduce.Statement.{statement}
 use Rattle.matrix.proofs.reducing.reduce.Tie as tie
 
 -- past the checks all is in order
-known : (c : tie.After-enum-told) → let args = c .before .before .before .before .before .before .before .args in
+known : (c : tie.After-enum-told) → let start : tie.Start = search needs in let args = start .args in
     Passed (args .p) (args .n) (args .m) (args .d) (now (args .a)) (now (args .r)) (now (args .u)) (now (args .v))
 known c = record { told = subst (Verdict false _ _ _ _ _ _ _) (c .enum-told .given .1) (c .before .before .check-reduction .ensures) }
+
+-- where the copy is made
+abbrev copied : tie.After-of → tie.After-copy
+copied c = search needs
 
 check-reduction-requires : tie.Need-check-reduction-requires
 check-reduction-requires c κs = search needs
@@ -36,19 +40,20 @@ copy-requires : tie.Need-copy-requires
 copy-requires c κs = copy-fits (known (c .before))
 
 mul-write-identity : tie.Need-mul-write-identity
-mul-write-identity c = omega (arith, cell-few (in-bounds (order (known (c .before .before .before .before .before)) .numbers)))
+mul-write-identity c = omega (arith, cell-few (in-bounds (order (known (search needs)) .numbers)))
 
 write-identity-requires : tie.Need-write-identity-requires
-write-identity-requires c κs = u-square (known (c .before .before .before .before .before))
+write-identity-requires c κs = u-square (known (search needs))
 
 write-identity-requires-2 : tie.Need-write-identity-requires-2
-write-identity-requires-2 c κs = v-square (known (c .before .before .before .before .before .before .before .before .before))
+write-identity-requires-2 c κs = v-square (known (search needs))
 
 of-requires : tie.Need-of-requires
-of-requires c κs = in-range (order (known (c .before .before .before .before .before .before .before .before .before .before .before .before .before .before .before)) .numbers .modulus)
+of-requires c κs = in-range (order (known (search needs)) .numbers .modulus)
 
 run-requires : tie.Need-run-requires
-run-requires c κs = start-asked (known (c .before .before .before .before .before .before .before .before .before .before .before .before .before .before .before .before)) (c .of .ensures .0) (c .of .ensures .1) (c .before .before .before .before .before .before .before .before .before .before .before .before .before .before .copy .ensures) (c .before .before .before .before .before .before .before .before .before .before .write-identity .ensures) (c .before .before .before .before .before .before .write-identity2 .ensures)
+run-requires c κs =
+    start-asked (known (search needs)) (c .of .ensures .0) (c .of .ensures .1) (copied c .copy .ensures) (search needs) (search needs)
 
 same-length : tie.Need-same-length
 same-length c = search needs
@@ -61,8 +66,9 @@ same-length-3 c = search needs
 
 returns-2 : tie.Need-returns-2
 returns-2 c =
-    let made = c .before .before .before .before .before .before .before in
-    answered (known (made .before .before .before .before .before .before .before .before .before .before .before .before .before .before .before .before)) (made .of .ensures .0) (made .before .before .before .before .before .before .before .before .before .before .before .before .before .before .copy .ensures) (c .before .before .before .before .before .before .run .ensures)
+    let run : tie.After-run = search needs in
+    let copy = copied (run .before) in
+    answered (known (copy .before .before)) (run .before .of .ensures .0) (copy .copy .ensures) (run .run .ensures)
 
 pub reduce-spec : {M : Type 1} → statement M
 reduce-spec =

@@ -11,7 +11,7 @@ use Rattle.matrix.proofs.single.step.Statement.{statement}
 use Rattle.matrix.proofs.single.step.Tie as tie
 
 -- past the checks all is in order
-known : (c : tie.After-enum-told) → let args = c .before .before .before .before .before .args in
+known : (c : tie.After-enum-told) → let start : tie.Start = search needs in let args = start .args in
     StepPassed (args .p) (args .n) (args .m) (args .d) (now (args .a)) (now (args .r))
 known c = record { told = subst (Verdict false _ _ _ _ _ _ _) (c .enum-told .given .1) (c .before .before .check-step .ensures) }
 
@@ -31,21 +31,19 @@ copy-requires : tie.Need-copy-requires
 copy-requires c κs = step-copy-fits (known (c .before))
 
 add-once : tie.Need-add-once
-add-once c = omega (arith, step-order (known (c .before .before .before .before .before)) .numbers .degree)
+add-once c = omega (arith, step-order (known (search needs)) .numbers .degree)
 
 of-requires : tie.Need-of-requires
-of-requires c κs = in-range (step-order (known (c .before .before .before .before .before)) .numbers .modulus)
+of-requires c κs = in-range (step-order (known (search needs)) .numbers .modulus)
 
 once-requires : tie.Need-once-requires
-once-requires c κs = step-asked (known (c .before .before .before .before .before .before)) (c .of .ensures .0) (c .of .ensures .1) (c .before .before .before .before .copy .ensures)
+once-requires c κs = step-asked (known (search needs)) (c .of .ensures .0) (c .of .ensures .1) (search needs)
 
 same-length : tie.Need-same-length
 same-length c = search needs
 
 returns-2 : tie.Need-returns-2
-returns-2 c =
-    let made = c .before .before .before in
-    step-answered (known (made .before .before .before .before .before .before)) (made .of .ensures .0) (made .before .before .before .before .copy .ensures) (c .before .before .once .ensures)
+returns-2 c = step-answered (known (search needs)) (c .before .before .before .of .ensures .0) (search needs) (c .before .before .once .ensures)
 
 pub step-spec : {M : Type 1} → statement M
 step-spec =

@@ -44,11 +44,10 @@ same-length c = search needs
 
 returns : tie.Need-returns
 returns c =
-    let clearing = c .before .before in
-    let copying = clearing .before .before .before .before in
-    let asked = copying .before .before .before .before .pre in
-    let first = copied asked (copying .copy .ensures) in
-    filled asked first (cleared asked first (clearing .clear .ensures))
+    let copying : tie.After-copy = search needs in
+    let start : tie.Start = search needs in
+    let first = copied (start .pre) (copying .copy .ensures) in
+    filled (start .pre) first (cleared (start .pre) first (c .before .before .clear .ensures))
 
 pub fill-spec : {M : Type 1} → statement M
 fill-spec =

@@ -10,7 +10,7 @@ sub-size : tie.Need-sub-size
 sub-size c = search needs
 
 mul-size : tie.Need-mul-size
-mul-size c = omega (arith, line-fits (c .before .before .before .before .pre))
+mul-size c = let start : tie.Start = search needs in omega (arith, line-fits (start .pre))
 
 mul-size-2 : tie.Need-mul-size-2
 mul-size-2 c = search needs
@@ -22,16 +22,16 @@ slice-relend-prefix-part : tie.Need-slice-relend-prefix-part
 slice-relend-prefix-part c = search needs
 
 slice-aggregate-part : tie.Need-slice-aggregate-part
-slice-aggregate-part c = sym (length-take-le _ _ (c .before .before .before .before .before .pre .column-room))
+slice-aggregate-part c = sym (length-take-le _ _ (search needs))
 
 slice-relend-prefix-part-2 : tie.Need-slice-relend-prefix-part-2
 slice-relend-prefix-part-2 c = search needs
 
 slice-aggregate-part-2 : tie.Need-slice-aggregate-part-2
-slice-aggregate-part-2 c = sym (length-take-le _ _ (c .before .before .before .before .before .before .pre .r-room))
+slice-aggregate-part-2 c = sym (length-take-le _ _ (search needs))
 
 part-requires : tie.Need-part-requires
-part-requires c κs = input-asked (c .before .before .before .before .before .before .pre)
+part-requires c κs = search (needs, input-asked)
 
 write-identity-requires : tie.Need-write-identity-requires
 write-identity-requires c κs = search needs
@@ -46,7 +46,7 @@ same-length-3 : tie.Need-same-length-3
 same-length-3 c = search needs
 
 returns : tie.Need-returns
-returns c = laid (c .before .before .before .before .before .before .before .before .before .before .before .before .before .before .before .pre) _ _ (c .before .before .before .before .before .before .before .before .part .ensures) (c .before .before .write-identity .ensures)
+returns c = search (needs, laid)
 
 pub lay-spec : {M : Type 1} → statement M
 lay-spec =

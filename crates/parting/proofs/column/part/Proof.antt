@@ -1,3 +1,4 @@
+use borrow.Author.Needs.{needs}
 use native.Mathlib.Omega.{arith}
 use mathlib.Core.Path.{_≡_}
 use denote.Ref.{now}
@@ -13,15 +14,18 @@ Inv-loop r column₀ next₀ k m w wide kept s₀ column next s = Parting m w wi
 abbrev μ-loop : tie.MeasureT-loop
 μ-loop r column₀ next₀ k m w wide kept s₀ column next s = m - s
 
+abbrev start : tie.In-loop Inv-loop μ-loop → tie.Start Inv-loop μ-loop
+start c = search needs
+
 -- the row that is read, and where its last cell ends
-row : (c : tie.After-skip Inv-loop μ-loop) → let args = c .before .before .before .before .before .before .args in
+row : (c : tie.After-skip Inv-loop μ-loop) → let args = start (c .before) .args in
     (c .skip .result * (args .m * args .w) + args .m * args .w ≤ length (now (args .r))) × ((args .m - 1) * args .w + args .w ≡ args .m * args .w)
-row c = rw (c .skip .ensures) (row-parts (c .before .before .before .before .before .before .pre) _ (c .before .loop-test .taken))
+row c = rw (c .skip .ensures) (row-parts (start (c .before) .pre) _ (c .before .loop-test .taken))
 
 -- and the cells that are written
-written : (c : tie.After-skip Inv-loop μ-loop) → let args = c .before .before .before .before .before .before .args in let loop = c .before .before .loop in
+written : (c : tie.After-skip Inv-loop μ-loop) → let args = start (c .before) .args in let loop = c .before .before .loop in
     (loop .s * ((args .m - 1) * args .w) + (args .m - 1) * args .w ≤ length (loop .next)) × (loop .s * args .wide + args .wide ≤ length (loop .column))
-written c = ends (c .before .before .before .before .before .before .pre) (c .before .before .loop .inv) (c .before .loop-test .taken)
+written c = ends (start (c .before) .pre) (c .before .before .loop .inv) (c .before .loop-test .taken)
 
 sub-kept : tie.Need-sub-kept Inv-loop μ-loop
 sub-kept c = omega arith
@@ -63,29 +67,25 @@ mul-fill-2 : tie.Need-mul-fill-2 Inv-loop μ-loop
 mul-fill-2 c = omega (arith, written (c .before .before))
 
 fill-requires : tie.Need-fill-requires Inv-loop μ-loop
-fill-requires c κs =
-    let read = c .before .before in
-    next-asked (read .before .before .before .before .before .before .pre) (read .before .before .loop .inv) (read .before .loop-test .taken) (read .skip .ensures)
+fill-requires c κs = search (needs, next-asked)
 
 mul-fill-3 : tie.Need-mul-fill-3 Inv-loop μ-loop
-mul-fill-3 c = omega (arith, row (c .before .before .before .before .before))
+mul-fill-3 c = omega (arith, row (search needs))
 
 sub-fill-2 : tie.Need-sub-fill-2 Inv-loop μ-loop
-sub-fill-2 c = omega (arith, row (c .before .before .before .before .before))
+sub-fill-2 c = omega (arith, row (search needs))
 
 part-fill-start-2 : tie.Need-part-fill-start-2 Inv-loop μ-loop
-part-fill-start-2 c = omega (arith, row (c .before .before .before .before .before))
+part-fill-start-2 c = omega (arith, row (search needs))
 
 part-fill-end-2 : tie.Need-part-fill-end-2 Inv-loop μ-loop
-part-fill-end-2 c = omega (arith, row (c .before .before .before .before .before))
+part-fill-end-2 c = omega (arith, row (search needs))
 
 mul-fill-4 : tie.Need-mul-fill-4 Inv-loop μ-loop
-mul-fill-4 c = omega (arith, written (c .before .before .before .before .before .before .before))
+mul-fill-4 c = omega (arith, written (search needs))
 
 fill-requires-2 : tie.Need-fill-requires-2 Inv-loop μ-loop
-fill-requires-2 c κs =
-    let read = c .before .before .before .before .before .before .before in
-    last-asked (read .before .before .before .before .before .before .pre) (read .before .before .loop .inv) (read .before .loop-test .taken) (read .skip .ensures)
+fill-requires-2 c κs = search (needs, last-asked)
 
 add-s : tie.Need-add-s Inv-loop μ-loop
 add-s c = omega arith
@@ -96,9 +96,9 @@ loop-less c = omega arith
 loop-again : tie.Need-loop-again Inv-loop μ-loop
 loop-again c =
     let second = c .before .before in
-    let first = second .before .before .before .before .before in
-    let read = first .before .before .before in
-    parting-turn (read .before .before .before .before .before .before .pre) (read .before .before .loop .inv) (read .before .loop-test .taken)
+    let first : tie.After-fill Inv-loop μ-loop = search needs in
+    let read : tie.After-skip Inv-loop μ-loop = search needs in
+    parting-turn (start (read .before) .pre) (read .before .before .loop .inv) (read .before .loop-test .taken)
     (read .skip .ensures) (first .fill .ensures) (second .fill2 .ensures)
 
 same-length : tie.Need-same-length Inv-loop μ-loop
@@ -108,7 +108,7 @@ same-length-2 : tie.Need-same-length-2 Inv-loop μ-loop
 same-length-2 c = c .before .loop .inv .next-filled .size
 
 returns : tie.Need-returns Inv-loop μ-loop
-returns c = parting-end (c .before .before .before .before .before .pre) (c .before .loop .inv) (omega arith)
+returns c = let start : tie.Start Inv-loop μ-loop = search needs in parting-end (start .pre) (c .before .loop .inv) (omega arith)
 
 pub part-spec : {M : Type 1} → statement M
 part-spec =

@@ -30,9 +30,7 @@ slice-aggregate-product-3 : tie.Need-slice-aggregate-product-3
 slice-aggregate-product-3 c = sym (length-take-le _ _ (omega arith))
 
 product-requires : tie.Need-product-requires
-product-requires c κs =
-    let used = c .before .before .before in
-    used-asked (used .before .used .ensures .0) (used .used2 .ensures .0) (used .before .before .before .before .before .before .pre)
+product-requires c κs = search (needs, used-asked)
 
 slice-reshare-prefix-copy : tie.Need-slice-reshare-prefix-copy
 slice-reshare-prefix-copy c = search needs
@@ -41,10 +39,7 @@ slice-aggregate-copy : tie.Need-slice-aggregate-copy
 slice-aggregate-copy c = sym (length-take-le _ _ (omega arith))
 
 copy-requires : tie.Need-copy-requires
-copy-requires c κs =
-    let made = c .before .before .before .before in
-    let used = made .before .before .before .before in
-    made-size (used .before .used .ensures .0) (used .used2 .ensures .0) (used .before .before .before .before .before .before .pre) _ (made .product .ensures)
+copy-requires c κs = search (needs, made-size)
 
 unit-requires : tie.Need-unit-requires
 unit-requires c κs = search needs
@@ -62,13 +57,13 @@ returns : tie.Need-returns
 unfolding signedProduct
 returns c =
     let scaled = c .before .before in
-    let copied = scaled .before .before .before .before .before in
-    let made = copied .before .before .before .before .before in
-    let used = made .before .before .before .before in
+    let copied : tie.After-copy = search needs in
+    let made : tie.After-product = search needs in
+    let used : tie.After-used2 = search needs in
+    let start : tie.Start = search needs in
     scaled .scale .ensures
     ∙ ap₂ (scaledBy _) (scaled .before .unit .ensures)
-    (copied .copy .ensures
-    ∙ made-whole (used .before .used .ensures .0) (used .used2 .ensures .0) (used .before .before .before .before .before .before .pre) _ (made .product .ensures))
+    (copied .copy .ensures ∙ made-whole (used .before .used .ensures .0) (used .used2 .ensures .0) (start .pre) _ (made .product .ensures))
 
 pub multiply-spec : {M : Type 1} → statement M
 multiply-spec =

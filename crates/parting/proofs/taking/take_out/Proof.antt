@@ -6,22 +6,14 @@ use Prim.Native.Nat.{_+_, _*_, _≤_}
 use denote.Ref.{now}
 use lib.ListN.{length}
 use lib.Seq.{length-take-le}
-use Rattle.parting.specs.TakingOut.{TakeAsked}
 use Rattle.parting.proofs.TakingOut.{entry-fits, cells-fit, left-asked, taken-out}
 use Rattle.parting.proofs.taking.take_out.Statement.{statement}
 use Rattle.parting.proofs.taking.take_out.Tie as tie
 
--- what was asked, and the row that is found
-abbrev Asked : (c : tie.After-lowest-zero) → Type 0
-Asked c = let args = c .before .before .before .before .before .before .before .args in
-    TakeAsked (args .md .p) (args .md .reciprocal) (args .m) (args .w) (args .wide) (now (args .r)) (now (args .column)) (now (args .next))
-    (now (args .product)) (now (args .spare)) (now (args .index))
-
-asked : (c : tie.After-lowest-zero) → Asked c
-asked c = c .before .before .before .before .before .before .before .pre
-
-fits : (c : tie.After-lowest-zero) → c .lowest-zero .result .k * c .before .before .before .before .before .before .before .args .wide + c .before .before .before .before .before .before .before .args .wide ≤ length (now (c .before .before .before .before .before .before .before .args .column))
-fits c = entry-fits (asked c) (c .lowest-zero .ensures .lowest)
+-- the row that is found lies in the column
+fits : (c : tie.After-lowest-zero) → let start : tie.Start = search needs in let args = start .args in
+    c .lowest-zero .result .k * args .wide + args .wide ≤ length (now (args .column))
+fits c = let start : tie.Start = search needs in entry-fits (start .pre) (c .lowest-zero .ensures .lowest)
 
 lowest-zero-requires : tie.Need-lowest-zero-requires
 lowest-zero-requires c κs = search needs
@@ -42,10 +34,13 @@ part-multiply-start : tie.Need-part-multiply-start
 part-multiply-start c = search needs
 
 part-multiply-end : tie.Need-part-multiply-end
-part-multiply-end c = fits (c .before .before .before .before)
+part-multiply-end c = fits (search needs)
 
 multiply-requires : tie.Need-multiply-requires
-multiply-requires c κs = let found = c .before .before .before .before .before in rw add-sub-cancel-left (asked found .row _ (found .lowest-zero .ensures .lowest) .1)
+multiply-requires c κs =
+    let start : tie.Start = search needs in
+    let found : tie.After-lowest-zero = search needs in
+    rw add-sub-cancel-left (start .pre .row _ (found .lowest-zero .ensures .lowest) .1)
 
 mul-cells : tie.Need-mul-cells
 mul-cells c = search needs
@@ -54,10 +49,10 @@ slice-relend-prefix-part : tie.Need-slice-relend-prefix-part
 slice-relend-prefix-part c = search needs
 
 slice-aggregate-part : tie.Need-slice-aggregate-part
-slice-aggregate-part c = sym (length-take-le _ _ (cells-fit (asked (c .before .before .before .before .before .before .before .before .before .before .before))))
+slice-aggregate-part c = sym (length-take-le _ _ (search (needs, cells-fit)))
 
 part-requires : tie.Need-part-requires
-part-requires c κs = let found = c .before .before .before .before .before .before .before .before .before .before .before .before in left-asked (asked found) (found .lowest-zero .ensures .lowest)
+part-requires c κs = search (needs, left-asked)
 
 same-length : tie.Need-same-length
 same-length c = search needs
@@ -73,10 +68,11 @@ same-length-4 c = search needs
 
 returns : tie.Need-returns
 returns c =
-    let parted = c .before .before .before .before in
-    let multiplied = parted .before .before .before .before .before .before .before in
-    let found = multiplied .before .before .before .before .before .before in
-    taken-out (asked found) (found .lowest-zero .ensures .lowest) _ (parted .part .ensures)
+    let parted : tie.After-part = search needs in
+    let multiplied : tie.After-multiply = search needs in
+    let found : tie.After-lowest-zero = search needs in
+    let start : tie.Start = search multiplied in
+    taken-out (start .pre) (found .lowest-zero .ensures .lowest) _ (parted .part .ensures)
     (rw (add-sub-cancel-left, found .lowest-zero .ensures .sign-is) at (multiplied .multiply .ensures))
 
 pub take-out-spec : {M : Type 1} → statement M

@@ -1,3 +1,4 @@
+use borrow.Author.Needs.{needs}
 use native.Mathlib.Omega.{arith}
 use mathlib.Core.Path.{_≡_, sym, ap, _∙_}
 use Prim.Native.Nat.{_+_, _*_, _-_, _≤_}
@@ -21,16 +22,16 @@ Inv-loop r index₀ degree₀ n m w s at₀ i₀ index degree at i =
 abbrev μ-loop : tie.MeasureT-loop
 μ-loop r index₀ degree₀ n m w s at₀ i₀ index degree at i = n - i
 
+-- where the function starts, seen from a turn of the loop
+abbrev start : tie.In-loop Inv-loop μ-loop → tie.Start Inv-loop μ-loop
+start c = search needs
+
 -- row i ends within the matrix
-ends : (c : tie.In-loop Inv-loop μ-loop) → let args = c .before .before .before .before .before .args in c .before .loop .at + args .m * args .w ≤ length (now (args .r))
-ends c =
-    let start = c .before .before .before .before .before in
-    omega (arith, c .before .loop .inv .1, start .pre .size, line-end (c .before .loop .i) (start .args .n) (start .args .m * start .args .w) (c .loop-test .taken))
+ends : (c : tie.In-loop Inv-loop μ-loop) → let args = start c .args in c .before .loop .at + args .m * args .w ≤ length (now (args .r))
+ends c = let args = start c .args in omega (arith, line-end (c .before .loop .i) (args .n) (args .m * args .w) (c .loop-test .taken))
 
 mul-s : tie.Need-mul-s Inv-loop μ-loop
-mul-s c =
-    let start = c .before .before .before in
-    omega (arith, start .pre .size, one-line (start .args .n) (start .args .m * start .args .w) (start .pre .rows))
+mul-s c = let args = c .before .before .before .args in omega (arith, one-line (args .n) (args .m * args .w) (search needs))
 
 loop-holds : tie.Need-loop-holds Inv-loop μ-loop
 loop-holds c = (omega arith, sym (zero-mul _), changing-start _ _, changing-start _ _)
@@ -51,7 +52,8 @@ part-of-end : tie.Need-part-of-end Inv-loop μ-loop
 part-of-end c = ends c
 
 of-requires : tie.Need-of-requires Inv-loop μ-loop
-of-requires c κs = row-asked _ _ _ _ _ _ (c .before .before .loop .inv .1) (c .before .before .before .before .before .before .pre .columns) (ends (c .before)) (omega arith) (λ d t _ from to. absurd (omega arith))
+of-requires c κs =
+    row-asked _ _ _ _ _ _ (c .before .before .loop .inv .1) (search needs) (ends (c .before)) (omega arith) (λ d t _ from to. absurd (omega arith))
 
 mul-index : tie.Need-mul-index Inv-loop μ-loop
 mul-index c = omega arith
@@ -73,14 +75,13 @@ loop-less c = omega arith
 
 loop-again : tie.Need-loop-again Inv-loop μ-loop
 loop-again c =
-    let head = c .before .before .before in
-    let start = head .before .before .before .before in
-    let inv = head .loop .inv in
-    let same = ap (valueOf _ _) (row-part (start .args .m) (start .args .w) _ _ (now (start .args .r)) (inv .1)) in (
+    let args = start (c .before .before) .args in
+    let inv = c .before .before .before .loop .inv in
+    let same = ap (valueOf _ _) (row-part (args .m) (args .w) _ _ (now (args .r)) (inv .1)) in (
       omega arith,
-      omega (arith, inv .1, add-mul (head .loop .i) 1 (start .args .m * start .args .w), one-mul (start .args .m * start .args .w)),
-      changing-turn _ _ _ _ (inv .2) _ (omega (arith, start .pre .index-room)) (c .of .ensures .index-is ∙ ap (Reduction.index (start .args .m)) same),
-      changing-turn _ _ _ _ (inv .3) _ (omega (arith, start .pre .degree-room)) (c .of .ensures .degree-is ∙ ap (Reduction.height (start .args .m)) same),
+      omega (arith, add-mul (c .before .before .before .loop .i) 1 (args .m * args .w), one-mul (args .m * args .w)),
+      changing-turn _ _ _ _ (inv .2) _ (omega arith) (c .of .ensures .index-is ∙ ap (Reduction.index (args .m)) same),
+      changing-turn _ _ _ _ (inv .3) _ (omega arith) (c .of .ensures .degree-is ∙ ap (Reduction.height (args .m)) same),
     )
 
 same-length : tie.Need-same-length Inv-loop μ-loop

@@ -34,9 +34,7 @@ loop-less : tie.Need-loop-less Inv-loop μ-loop
 loop-less c = search needs
 
 loop-again : tie.Need-loop-again Inv-loop μ-loop
-loop-again c =
-    let head = c .before .before .before .before in
-    found-on _ _ _ _ _ _ (head .loop .inv) (c .before .before .before .loop-test .taken) (c .lesser .ensures ∙ ap (min _) (c .before .or-zero .ensures))
+loop-again c = found-on _ _ _ _ _ _ (search needs) (search needs) (c .lesser .ensures ∙ ap (min _) (c .before .or-zero .ensures))
 
 returns : tie.Need-returns Inv-loop μ-loop
 returns c = found-end _ _ _ _ _ (c .before .loop .inv) (omega arith)

@@ -29,7 +29,7 @@ shared-slice-read-if1 : tie.Need-shared-slice-read-if1 Inv-loop μ-loop
 shared-slice-read-if1 c = searching-fits _ _ _ _ (c .before .before .before .pre) _ _ (c .before .before .loop .inv) (c .before .loop-test .taken) .2
 
 returns : tie.Need-returns Inv-loop μ-loop
-returns c = searching-found _ _ _ _ (c .before .before .before .before .pre) _ _ (c .before .before .before .loop .inv) (c .before .before .loop-test .taken) (c .if1 .taken)
+returns c = let head = c .before .before .before in searching-found _ _ _ _ (head .before .pre) _ _ (head .loop .inv) (omega arith) (c .if1 .taken)
 
 sub-c : tie.Need-sub-c Inv-loop μ-loop
 sub-c c = omega arith
@@ -38,7 +38,7 @@ loop-less : tie.Need-loop-less Inv-loop μ-loop
 loop-less c = omega arith
 
 loop-again : tie.Need-loop-again Inv-loop μ-loop
-loop-again c = searching-on _ _ _ _ (c .before .before .before .before .pre) _ _ (c .before .before .before .loop .inv) (c .before .before .loop-test .taken) (c .if1 .left)
+loop-again c = let head = c .before .before .before in searching-on _ _ _ _ (head .before .pre) _ _ (head .loop .inv) (omega arith) (c .if1 .left)
 
 returns-2 : tie.Need-returns-2 Inv-loop μ-loop
 returns-2 c = searching-none _ _ _ _ (c .before .before .pre) _ _ (c .before .loop .inv) (c .loop-test .left)

@@ -54,7 +54,7 @@ loop-less c = omega arith
 
 loop-again : tie.Need-loop-again Inv-loop μ-loop
 loop-again c =
-    let inv = c .before .before .before .before .loop .inv in
+    let head : tie.At-loop Inv-loop μ-loop = search needs in let inv = head .loop .inv in
     record { first = inv .first; second = inv .second; to = omega arith; same = below-more _ _ (inv .same) (c .if2 .left) }
 
 returns-3 : tie.Need-returns-3 Inv-loop μ-loop

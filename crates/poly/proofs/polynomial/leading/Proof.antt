@@ -23,7 +23,7 @@ shared-slice-read-t7 : tie.Need-shared-slice-read-t7
 shared-slice-read-t7 c = omega arith
 
 returns-2 : tie.Need-returns-2
-returns-2 c = ap (λ (n : ℕ). getD (c .before .before .before .before .args .a .now) (n - 1) 0) (c .before .before .used .ensures .0)
+returns-2 c = let start : tie.Start = search needs in ap (λ (n : ℕ). getD (start .args .a .now) (n - 1) 0) (c .before .before .used .ensures .0)
 
 pub leading-spec : {M : Type 1} → statement M
 leading-spec =

@@ -30,13 +30,13 @@ all-zero-requires : tie.Need-all-zero-requires Inv-loop μ-loop
 all-zero-requires c κs = search needs
 
 returns : tie.Need-returns Inv-loop μ-loop
-returns c = let inv = c .before .before .before .before .loop .inv in (inv .within, inv .zeros)
+returns c = let head : tie.At-loop Inv-loop μ-loop = search needs in (head .loop .inv .within, head .loop .inv .zeros)
 
 loop-less : tie.Need-loop-less Inv-loop μ-loop
 loop-less c = omega arith
 
 loop-again : tie.Need-loop-again Inv-loop μ-loop
-loop-again c = ends-part _ _ _ (c .before .before .before .before .loop .inv) (omega arith) (c .before .all-zero .ensures .0 (not-false _ (c .if1 .left)))
+loop-again c = ends-part _ _ _ (search needs) (omega arith) (c .before .all-zero .ensures .0 (not-false _ (c .if1 .left)))
 
 returns-2 : tie.Need-returns-2 Inv-loop μ-loop
 returns-2 c = let inv = c .before .loop .inv in (inv .within, inv .zeros)

@@ -23,13 +23,13 @@ cast-result : tie.Need-cast-result
 cast-result c = search needs
 
 cast-result-2 : tie.Need-cast-result-2
-cast-result-2 c = let start = c .before .before .before .before .before in omega (arith, near (start .args .x) _ _ (search needs) (start .pre))
+cast-result-2 c = let start : tie.Start = search needs in omega (arith, near (start .args .x) _ _ (search needs) (start .pre))
 
 returns : tie.Need-returns
-returns c = rest-low _ _ _ (search needs) (c .before .before .before .before .pre) (c .if1 .taken)
+returns c = let start : tie.Start = search needs in rest-low _ _ _ (search needs) (start .pre) (c .if1 .taken)
 
 returns-2 : tie.Need-returns-2
-returns-2 c = rest-high _ _ _ (search needs) (c .before .before .before .before .before .pre) (c .before .if1 .left)
+returns-2 c = let start : tie.Start = search needs in rest-high _ _ _ (search needs) (start .pre) (c .before .if1 .left)
 
 pub remainder-spec : {M : Type 1} → statement M
 remainder-spec =

@@ -25,16 +25,16 @@ sign-requires : tie.Need-sign-requires Inv-loop μ-loop
 sign-requires c κs = search needs
 
 add-rank : tie.Need-add-rank Inv-loop μ-loop
-add-rank c = omega (arith, c .before .before .before .loop .inv .1 .rank-most, sign-few _ _ _ _ _ (c .before .before .before .loop .inv .1) _ (c .sign .ensures), c .before .before .before .before .before .pre .few, c .before .before .loop-test .taken)
+add-rank c = let inv = c .before .before .before .loop .inv .1 in omega (arith, inv .rank-most, sign-few inv (c .sign .ensures))
 
 mul-rows : tie.Need-mul-rows Inv-loop μ-loop
-mul-rows c = omega (arith, entry-few _ _ _ _ _ (c .before .before .before .loop .inv .1) _ (c .sign .ensures), bit-few _ _ _ _ _ (c .before .before .before .loop .inv .1) (omega (arith, c .before .before .before .before .before .pre .few, c .before .before .loop-test .taken)))
+mul-rows c = let inv = c .before .before .before .loop .inv .1 in omega (arith, entry-few inv (c .sign .ensures), bit-few inv (omega arith))
 
 add-rows : tie.Need-add-rows Inv-loop μ-loop
-add-rows c = omega (arith, c .before .before .before .loop .inv .1 .rows-most, entry-few _ _ _ _ _ (c .before .before .before .loop .inv .1) _ (c .sign .ensures), bit-few _ _ _ _ _ (c .before .before .before .loop .inv .1) (omega (arith, c .before .before .before .before .before .pre .few, c .before .before .loop-test .taken)))
+add-rows c = let inv = c .before .before .before .loop .inv .1 in omega (arith, inv .rows-most, entry-few inv (c .sign .ensures), bit-few inv (omega arith))
 
 mul-bit : tie.Need-mul-bit Inv-loop μ-loop
-mul-bit c = omega (arith, bit-few _ _ _ _ _ (c .before .before .before .loop .inv .1) (omega (arith, c .before .before .before .before .before .pre .few, c .before .before .loop-test .taken)))
+mul-bit c = omega (arith, bit-few (c .before .before .before .loop .inv .1) (omega arith))
 
 add-i : tie.Need-add-i Inv-loop μ-loop
 add-i c = omega arith
@@ -43,10 +43,10 @@ loop-less : tie.Need-loop-less Inv-loop μ-loop
 loop-less c = omega arith
 
 loop-again : tie.Need-loop-again Inv-loop μ-loop
-loop-again c = (omega (arith, c .before .before .loop-test .taken), listing-on _ _ _ _ _ (c .before .before .before .loop .inv .1) _ (c .sign .ensures))
+loop-again c = (omega arith, listing-on (c .before .before .before .loop .inv .1) (c .sign .ensures))
 
 returns : tie.Need-returns Inv-loop μ-loop
-returns c = listing-all _ _ _ _ _ (c .before .loop .inv .1) _ (c .before .loop .inv .0) (c .loop-test .left)
+returns c = listing-all (c .before .loop .inv .1) _ (c .before .loop .inv .0) (c .loop-test .left)
 
 pub list-spec : {M : Type 1} → statement M
 list-spec =

@@ -1,6 +1,7 @@
+use borrow.Author.Needs.{needs}
 use native.Mathlib.Numerals.{add-one}
 use native.Mathlib.Omega.{arith}
-use mathlib.Core.Path.{_≡_, sym, _∙_}
+use mathlib.Core.Path.{_≡_, sym}
 use Prim.Native.Nat.{_+_, _-_, _*_, _≤_, _<_}
 use lib.ListN.{length}
 use lib.Seq.{length-take-le}
@@ -15,8 +16,11 @@ Inv-loop r₀ column₀ next₀ product₀ spare₀ index₀ degree₀ n w wide 
 abbrev μ-loop : tie.MeasureT-loop
 μ-loop r₀ column₀ next₀ product₀ spare₀ index₀ degree₀ n w wide md m₀ budget₀ r column next product spare index degree m budget = m
 
+abbrev start : tie.After-slice-known7 Inv-loop μ-loop → tie.Start Inv-loop μ-loop
+start c = search needs
+
 -- where a stage lies in the buffers
-lies : (c : tie.In-loop Inv-loop μ-loop) → let args = c .before .before .before .before .before .before .before .before .before .args in let loop = c .before .loop in
+lies : (c : tie.In-loop Inv-loop μ-loop) → let args = start (c .before .before) .args in let loop = c .before .loop in
     ((loop .m + 1) * (loop .m * args .w) ≤ length (loop .r)) × ((loop .m + 1) * args .wide ≤ length (loop .column))
     × (loop .m * ((loop .m - 1) * args .w) ≤ length (loop .next)) × (loop .m * args .w ≤ length (loop .spare))
     × ((loop .m - 1) * args .w ≤ loop .m * args .w) × (loop .m < 8)
@@ -27,16 +31,16 @@ ended : (c : tie.After-loop Inv-loop μ-loop) → c .before .loop .m ≡ 0
 ended c = omega arith
 
 sub-m : tie.Need-sub-m Inv-loop μ-loop
-sub-m c = omega (arith, c .before .before .before .before .before .before .before .pre .rows)
+sub-m c = omega (arith, start c .pre .rows)
 
 sub-budget : tie.Need-sub-budget Inv-loop μ-loop
-sub-budget c = omega (arith, c .before .before .before .before .before .before .before .pre .places)
+sub-budget c = omega (arith, start c .pre .places)
 
 mul-budget : tie.Need-mul-budget Inv-loop μ-loop
-mul-budget c = omega (arith, budget-fits (c .before .before .before .before .before .before .before .pre))
+mul-budget c = omega (arith, budget-fits (start c .pre))
 
 loop-holds : tie.Need-loop-holds Inv-loop μ-loop
-loop-holds c = staging-start (c .before .before .before .before .before .before .before .pre)
+loop-holds c = staging-start (start c .pre)
 
 add-size : tie.Need-add-size Inv-loop μ-loop
 add-size c = omega (arith, lies c)
@@ -81,55 +85,58 @@ slice-aggregate-stage-3 : tie.Need-slice-aggregate-stage-3 Inv-loop μ-loop
 slice-aggregate-stage-3 c = sym (length-take-le _ _ (lies (c .before .before .before) .2))
 
 stage-requires : tie.Need-stage-requires Inv-loop μ-loop
-stage-requires c κs = let turning = c .before .before .before .before .before .before .before in rw add-one (stage-asked (turning .before .loop .inv) (turning .loop-test .taken))
+stage-requires c κs =
+    let turn : tie.In-loop Inv-loop μ-loop = search needs in
+    rw add-one (stage-asked (turn .before .loop .inv) (turn .loop-test .taken))
 
 sub-m-2 : tie.Need-sub-m-2 Inv-loop μ-loop
-sub-m-2 c = omega (arith, c .before .before .before .before .before .before .before .before .before .before .before .before .before .before .before .before .before .before .before .before .before .before .loop-test .taken)
+sub-m-2 c = omega arith
 
 loop-less : tie.Need-loop-less Inv-loop μ-loop
-loop-less c = omega (arith, c .before .before .before .before .before .before .before .before .before .before .before .before .before .before .before .before .before .before .before .before .before .before .loop-test .taken)
+loop-less c = omega arith
 
 loop-again : tie.Need-loop-again Inv-loop μ-loop
 loop-again c =
-    let made = c .before .before .before .before .before .before .before .before .before .before .before .before .before .before in
-    let turning = made .before .before .before .before .before .before .before .before in
+    let turn : tie.In-loop Inv-loop μ-loop = search needs in
+    let made : tie.After-stage Inv-loop μ-loop = search needs in
     let kept = made .stage .kept in
-    rw add-one (staging-on (turning .before .loop .inv) (turning .loop-test .taken) (rw add-one at (made .stage .ensures)) (rw add-one at (kept .0))
-    (rw add-one at (kept .1 .0)) (made .stage .last .1 .1 .0) (kept .1 .1 .0) (kept .1 .1 .1 .0) (kept .1 .1 .1 .1 .0) (kept .1 .1 .1 .1 .1 .0)
-    (kept .1 .1 .1 .1 .1 .1 .0))
+    rw add-one (staging-on (turn .before .loop .inv) (turn .loop-test .taken) (rw add-one at (made .stage .ensures)) (rw add-one at (kept .0))
+    (rw add-one at (kept .1 .0)) (made .stage .last .1 .1 .0) (kept .1 .1 .0) (search needs) (search needs) (search needs) (search needs))
 
 slice-reshare-prefix-multiply : tie.Need-slice-reshare-prefix-multiply Inv-loop μ-loop
-slice-reshare-prefix-multiply c = cell-fits (c .before .before .before .loop .inv) (ended (c .before .before))
+slice-reshare-prefix-multiply c = let done = c .before .before in cell-fits (done .before .loop .inv) (ended done)
 
 slice-aggregate-multiply : tie.Need-slice-aggregate-multiply Inv-loop μ-loop
-slice-aggregate-multiply c = sym (length-take-le _ _ (cell-fits (c .before .before .before .before .loop .inv) (ended (c .before .before .before))))
+slice-aggregate-multiply c = sym (length-take-le _ _ (slice-reshare-prefix-multiply (c .before)))
 
 multiply-requires : tie.Need-multiply-requires Inv-loop μ-loop
-multiply-requires c κs = end-asked (c .before .before .before .before .loop .inv) (ended (c .before .before .before))
+multiply-requires c κs = let done = c .before .before .before in end-asked (done .before .loop .inv) (ended done)
 
 same-length : tie.Need-same-length Inv-loop μ-loop
-same-length c = c .before .before .before .before .before .before .before .before .before .loop .inv .r-same
+same-length c = search needs
 
 same-length-2 : tie.Need-same-length-2 Inv-loop μ-loop
-same-length-2 c = c .before .before .before .before .before .before .before .before .before .loop .inv .column-same
+same-length-2 c = search needs
 
 same-length-3 : tie.Need-same-length-3 Inv-loop μ-loop
-same-length-3 c = c .before .before .before .before .before .before .before .before .before .loop .inv .next-same
+same-length-3 c = search needs
 
 same-length-4 : tie.Need-same-length-4 Inv-loop μ-loop
-same-length-4 c = c .before .before .before .before .multiply .kept .0 ∙ c .before .before .before .before .before .before .before .before .before .loop .inv .product-same
+same-length-4 c = search needs
 
 same-length-5 : tie.Need-same-length-5 Inv-loop μ-loop
-same-length-5 c = c .before .before .before .before .multiply .kept .1 .0 ∙ c .before .before .before .before .before .before .before .before .before .loop .inv .spare-same
+same-length-5 c = search needs
 
 same-length-6 : tie.Need-same-length-6 Inv-loop μ-loop
-same-length-6 c = c .before .before .before .before .before .before .before .before .before .loop .inv .index-same
+same-length-6 c = search needs
 
 same-length-7 : tie.Need-same-length-7 Inv-loop μ-loop
-same-length-7 c = c .before .before .before .before .before .before .before .before .before .loop .inv .degree-same
+same-length-7 c = search needs
 
 returns : tie.Need-returns Inv-loop μ-loop
-returns c = ran (c .before .before .before .before .before .before .before .before .before .loop .inv) (ended (c .before .before .before .before .before .before .before .before)) (c .before .before .before .before .multiply .ensures) (c .before .before .before .before .multiply .kept .0)
+returns c =
+    let done : tie.After-loop Inv-loop μ-loop = search needs in
+    ran (done .before .loop .inv) (ended done) (search needs) (search needs)
 
 pub run-spec : {M : Type 1} → statement M
 run-spec =

@@ -1,5 +1,5 @@
 use native.Mathlib.Omega.{arith}
-use mathlib.Core.Path.{_≡_, sym, subst, _∙_}
+use mathlib.Core.Path.{_≡_, sym, subst}
 use Prim.Native.Nat.{ℕ, _+_, _*_, _≤_, _<_}
 use lib.ListN.{getD}
 use Rattle.lists.proofs.Last.{IsLast, last-is}
@@ -40,7 +40,7 @@ loop-less c = omega arith
 loop-again : tie.Need-loop-again Inv-loop μ-loop
 loop-again c =
     let head = c .before .before .before in
-    (omega arith, zeros-more _ _ _ (head .before .before .args .row .now) (c .before .before .loop-test .taken) (head .loop .inv .1) (sym (c .before .rightmost .ensures) ∙ c .if1 .left))
+    (omega arith, zeros-more _ _ _ (head .before .before .args .row .now) (omega arith) (head .loop .inv .1) (omega arith))
 
 returns-2 : tie.Need-returns-2 Inv-loop μ-loop
 returns-2 c =
