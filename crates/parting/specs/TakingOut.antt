@@ -24,7 +24,7 @@ pub record IsLower (a b x : ZeroRow) : Type 0 where
   pub second : b .k < a .k → x ≡ b
   pub first : a .k ≤ b .k → x ≡ a
 
--- such a row of m + 1, with its sign
+-- the lowest zero one of m + 1 rows, with its sign
 pub record ZeroFound (m : ℕ) (indices : List ℕ) (k : ℕ) (sign : Bool) : Type 0 where
   pub lowest : LowestZero (suc m) indices k
   pub sign-is : sign ≡ negative m k
