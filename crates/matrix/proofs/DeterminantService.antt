@@ -1,18 +1,18 @@
 -- From the checks to the determinant, and from it to the answer.
-use mathlib.Core.Path.{_≡_, refl, sym, ap, subst, _∙_}
+use mathlib.Core.Path.{_≡_, refl, sym, subst}
 use mathlib.Core.Bool.{true}
 use mathlib.Core.List.{List, [], _∷_}
-use Prim.Native.Nat.{ℕ, _+_, _*_}
+use Prim.Native.Nat.{ℕ, _+_}
 use lib.ListN.{length}
 use Rattle.residues.specs.Modulus.{Ready}
-use Rattle.buffers.specs.Bounds.{Bounds}
+use Rattle.buffers.specs.Bounds.{Checked}
 use Rattle.refusals.specs.Answering.{Told}
 use Rattle.refusals.specs.Refused.{determinantSizes, refusalTable}
 use Rattle.refusals.proofs.Answering.{answer-done, InOrder, in-order, sized}
-use Rattle.checking.proofs.Verdicts.{in-bounds}
 use Rattle.stages.specs.Determinant.{DeterminantAsked, IsDeterminant}
 use Rattle.matrix.specs.Determinant.{DeterminantAnswered}
 use Rattle.matrix.specs.declared.determining.DeterminantAnswer.the-variants.{Done}
+use Rattle.matrix.proofs.Service.{checked}
 
 -- the checks of the determinant
 pub record DeterminantPassed (p n m d : ℕ) (a r : List ℕ) : Type 0 where
@@ -23,14 +23,8 @@ module _ {p n m d : ℕ} {a r : List ℕ} (passed : DeterminantPassed p n m d a 
   determinant-order = in-order refl (passed .told)
 
   pub determinant-asked : {q reciprocal : ℕ} → q ≡ p → Ready q reciprocal → DeterminantAsked q reciprocal n d a r
-  determinant-asked q-is ready = record {
-    checked = record {
-      ready = ready;
-      prime = rw q-is (determinant-order .numbers .modulus .prime);
-      bounds = subst (λ (x : ℕ). Bounds n x (d + 1)) (sym (determinant-order .square)) (in-bounds (determinant-order .numbers));
-      size = sized determinant-order 0 ∙ ap (λ (x : ℕ). n * (x * (d + 1))) (sym (determinant-order .square));
-      residues = rw q-is (determinant-order .residues);
-    };
+  determinant-asked {q} {reciprocal} q-is ready = record {
+    checked = subst (λ (x : ℕ). Checked q reciprocal n x (d + 1) a) (sym (determinant-order .square)) (checked determinant-order q-is ready refl);
     room = sized determinant-order 1;
   }
 

@@ -1,18 +1,16 @@
 -- From the checks to the reduction, and from its end to the answer.
-use mathlib.Core.Path.{_≡_, refl, sym, ap, subst, _∙_}
-use mathlib.Core.Bool.{false}
-use mathlib.Core.List.{List}
+use mathlib.Core.Path.{_≡_, refl, sym, ap, _∙_}
+use mathlib.Core.Bool.{Bool, false}
+use mathlib.Core.List.{List, _∷_}
 use Prim.Native.Nat.{ℕ, _+_, _*_, _<_}
 use native.Mathlib.Omega.{arith}
 use lib.ListN.{length}
-use Rattle.algebra.specs.Prime.{Prime}
 use Rattle.residues.specs.Modulus.{Ready}
-use Rattle.poly.specs.Polynomial.{Coefficients}
 use Rattle.buffers.specs.Bounds.{Checked}
 use Rattle.buffers.specs.Diagonal.{Diagonal}
 use Rattle.rows.specs.Asked.{Square}
 use Rattle.refusals.specs.Answering.{Told}
-use Rattle.refusals.specs.Refused.{Numbers, reductionSizes, refusalTable}
+use Rattle.refusals.specs.Refused.{reductionSizes, refusalTable}
 use Rattle.checking.proofs.Verdicts.{in-bounds}
 use Rattle.refusals.proofs.Answering.{answer-done, InOrder, in-order, sized}
 use Rattle.running.specs.Asked.{StartAsked}
@@ -20,15 +18,16 @@ use Rattle.running.specs.Reduced.{IsDone}
 use Rattle.matrix.specs.Answer.{lengths, Answered}
 use Rattle.matrix.specs.declared.reducing.Answer.the-variants.{Done}
 
--- all checks have passed: the numbers are in range, and the input has its length and its residues
-pub input-asked : {p n m d : ℕ} {a : List ℕ} → Numbers p n m d → length a ≡ n * (m * (d + 1)) → Coefficients p a
+-- the input of a service whose checks have passed, or a copy of it
+pub checked : {determinant : Bool} {p n m d : ℕ} {given wanted a : List ℕ}
+    → InOrder determinant p n m d (length a ∷ given) (n * (m * (d + 1)) ∷ wanted) a
     → {q reciprocal : ℕ} {r : List ℕ} → q ≡ p → Ready q reciprocal → r ≡ a → Checked q reciprocal n m (d + 1) r
-input-asked numbers size residues q-is ready r-is = record {
+checked order q-is ready r-is = record {
   ready = ready;
-  prime = subst Prime (sym q-is) (numbers .modulus .prime);
-  bounds = in-bounds numbers;
-  size = ap length r-is ∙ size;
-  residues = rw q-is (rw r-is residues);
+  prime = rw q-is (order .numbers .modulus .prime);
+  bounds = in-bounds (order .numbers);
+  size = ap length r-is ∙ sized order 0;
+  residues = rw q-is (rw r-is (order .residues));
 }
 
 -- the checks of the reduction
@@ -53,8 +52,7 @@ module _ {p n m d : ℕ} {a r u v : List ℕ} (passed : Passed p n m d a r u v) 
 
   pub start-asked : {q reciprocal : ℕ} {r′ u′ v′ : List ℕ} → q ≡ p → Ready q reciprocal → r′ ≡ a → Diagonal n (n * (d + 1)) u′ → Diagonal n (d + 1) v′
       → StartAsked q reciprocal n m (d + 1) r′ u′ v′
-  start-asked q-is ready r-is u-one v-one =
-      record { input = input-asked (order .numbers) (sized order 0) (order .residues) q-is ready r-is; u-one = u-one; v-one = v-one }
+  start-asked q-is ready r-is u-one v-one = record { input = checked order q-is ready r-is; u-one = u-one; v-one = v-one }
 
   -- the reduction of the copy is that of the input
   pub answered : {q rank count rows : ℕ} {b r′ u′ v′ : List ℕ} → q ≡ p → b ≡ a → IsDone q n m (d + 1) b r′ u′ v′ rank count rows

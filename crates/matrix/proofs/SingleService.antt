@@ -12,7 +12,7 @@ use Rattle.refusals.proofs.Answering.{answer-done, InOrder, in-order, sized}
 use Rattle.running.specs.SteppedOnce.{SteppedOnce}
 use Rattle.matrix.specs.Single.{StepAnswered}
 use Rattle.matrix.specs.declared.single.StepAnswer.the-variants.{Done}
-use Rattle.matrix.proofs.Service.{input-asked}
+use Rattle.matrix.proofs.Service.{checked}
 
 -- the checks of the single step
 pub record StepPassed (p n m d : ℕ) (a r : List ℕ) : Type 0 where
@@ -28,7 +28,7 @@ module _ {p n m d : ℕ} {a r : List ℕ} (passed : StepPassed p n m d a r) wher
 
   -- the copy has passed the checks too
   pub step-asked : {q reciprocal : ℕ} {r′ : List ℕ} → q ≡ p → Ready q reciprocal → r′ ≡ a → Checked q reciprocal n m (d + 1) r′
-  step-asked q-is ready r-is = input-asked (step-order .numbers) (sized step-order 0) (step-order .residues) q-is ready r-is
+  step-asked q-is ready r-is = checked step-order q-is ready r-is
 
   -- a step on the copy is a step on the input
   pub step-answered : {q count : ℕ} {b r′ : List ℕ} → q ≡ p → b ≡ a → SteppedOnce q n m (d + 1) count b r′ → StepAnswered p n m d a r r′ (Done count)
