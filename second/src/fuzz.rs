@@ -2,6 +2,7 @@
 //! and the comparison of a printer's answers with this program's.
 
 use crate::printer;
+use crate::progress::Progress;
 use crate::sample::{self, Sample, Source};
 use std::io::{self, Write};
 use std::process::{Command, Output, Stdio};
@@ -251,10 +252,12 @@ const WORKERS: u64 = 2;
 /// Runs the printer on texts 0 to count - 1 of the seed. An error means that it
 /// can't be run.
 pub fn compare(printer: &str, count: u64, seed: u64) -> io::Result<Tally> {
+    let progress = Progress::new("fuzz", count);
     let work = |first: u64| -> io::Result<Tally> {
         let mut tally = Tally::default();
         for number in (first..count).step_by(WORKERS as usize) {
             compare_text(printer, seed, number, &mut tally)?;
+            progress.step();
         }
         Ok(tally)
     };

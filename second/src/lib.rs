@@ -17,6 +17,7 @@ pub mod matrix;
 pub mod poly;
 pub mod popov;
 pub mod printer;
+pub mod progress;
 #[cfg(feature = "proved")]
 pub mod proved;
 pub mod reduce;

@@ -6,6 +6,7 @@ use crate::check::{self, Faults};
 use crate::det;
 use crate::matrix::Matrix;
 use crate::popov;
+use crate::progress::Progress;
 use crate::reduce;
 use crate::refuse::{self, Call, Service};
 use crate::sample::{self, Sample};
@@ -87,6 +88,8 @@ struct Function {
     raw: Calling,
     /// For p, d and a matrix that are not refused.
     done: fn(u64, usize, &Matrix) -> Done,
+    /// The sample of a seed and a number.
+    sample: fn(u64, u64) -> Sample,
     /// What has to hold of a sample besides equal answers for its matrix.
     further: fn(&Numbered) -> bool,
 }
@@ -97,6 +100,7 @@ const FUNCTIONS: [Function; 4] = [
         call: call_reduce,
         raw: raw_reduce,
         done: reduction,
+        sample: sample::sample,
         further: reduction_multiplied_out,
     },
     Function {
@@ -104,6 +108,7 @@ const FUNCTIONS: [Function; 4] = [
         call: call_step,
         raw: raw_step,
         done: single_step,
+        sample: sample::sample,
         further: later_steps_agree,
     },
     Function {
@@ -111,6 +116,7 @@ const FUNCTIONS: [Function; 4] = [
         call: call_popov,
         raw: raw_popov,
         done: popov_form,
+        sample: sample::sample,
         further: |numbered| popov_form_multiplied_out(numbered) & pair_agrees(numbered),
     },
     Function {
@@ -118,6 +124,7 @@ const FUNCTIONS: [Function; 4] = [
         call: call_determinant,
         raw: raw_determinant,
         done: |p, d, a| (Said::default(), vec![det::determinant_places(p, d, a)]),
+        sample: sample::square_sample,
         further: determinant_at_values,
     },
 ];
@@ -378,7 +385,7 @@ fn agrees(label: &str, call: &Call) -> bool {
     same
 }
 
-/// Compares a matrix that is not refused.
+/// Compares a matrix, with all buffers as the table says.
 pub fn matrix_agrees(label: &str, service: Service, p: u64, d: usize, a: &Matrix) -> bool {
     agrees(label, &Call::of_matrix(service, p, d, a))
 }
@@ -391,30 +398,81 @@ struct Numbered {
     label: String,
 }
 
+/// How many agree and how many do not, and what was compared.
+#[derive(Default)]
+pub struct Tally {
+    pub passed: u64,
+    pub failed: u64,
+    /// Samples that are not refused, so that there are results to compare.
+    pub samples: u64,
+    /// Those of them that are square.
+    pub square: u64,
+    /// Calls that are refused or next to being refused.
+    pub refusals: u64,
+}
+
+impl Tally {
+    fn add(&mut self, agrees: bool) {
+        if agrees {
+            self.passed += 1;
+        } else {
+            self.failed += 1;
+        }
+    }
+}
+
 /// Compares all refusal inputs and then samples 0 to count - 1 of the seed, each
-/// with what further has to hold of it. Returns how many agree and how many do
-/// not.
-pub fn compare(service: Service, count: u64, seed: u64) -> (u64, u64) {
-    let mut passed = 0;
-    let mut failed = 0;
-    let mut add = |agrees: bool| *(if agrees { &mut passed } else { &mut failed }) += 1;
+/// with what further has to hold of it.
+pub fn compare(service: Service, count: u64, seed: u64) -> Tally {
+    let mut tally = Tally::default();
     for (number, input) in sample::refusal_inputs(service, seed).iter().enumerate() {
         let label = format!("refusal input {number} of seed {seed}, {}", input.label);
-        add(agrees(&label, &input.call));
+        tally.add(agrees(&label, &input.call));
+        tally.refusals += 1;
     }
+    let progress = Progress::new(service.name(), count);
     for number in 0..count {
-        let sample = sample::sample(seed, number);
-        let label = format!("sample {number} of seed {seed}, {:?}", sample.kind);
-        let same = matrix_agrees(&label, service, sample.p, sample.d, &sample.a);
-        let numbered = Numbered {
-            seed,
-            number,
-            sample,
-            label,
-        };
-        add((function(service).further)(&numbered) && same);
+        compare_sample(service, seed, number, &mut tally);
+        if service == Service::Determinant {
+            compare_other_shape(seed, number, &mut tally);
+        }
+        progress.step();
     }
-    (passed, failed)
+    tally
+}
+
+fn compare_sample(service: Service, seed: u64, number: u64, tally: &mut Tally) {
+    let Function {
+        sample, further, ..
+    } = function(service);
+    let sample = sample(seed, number);
+    let label = format!("sample {number} of seed {seed}, {:?}", sample.kind);
+    let call = Call::of_matrix(service, sample.p, sample.d, &sample.a);
+    if let Some(refusal) = refuse::refusal(&call) {
+        tally.add(none(&label, vec![format!("no sample: {refusal:?}")]));
+        return;
+    }
+    tally.samples += 1;
+    tally.square += u64::from(call.n == call.m);
+    let same = agrees(&label, &call);
+    let numbered = Numbered {
+        seed,
+        number,
+        sample,
+        label,
+    };
+    tally.add(further(&numbered) && same);
+}
+
+/// The determinant of a sample of any shape, which is refused if that is not
+/// square.
+fn compare_other_shape(seed: u64, number: u64, tally: &mut Tally) {
+    let Sample { kind, p, d, a } = sample::sample(seed, number);
+    if a.rows != a.columns {
+        let label = format!("sample {number} of seed {seed}, {kind:?}, not square");
+        tally.add(matrix_agrees(&label, Service::Determinant, p, d, &a));
+        tally.refusals += 1;
+    }
 }
 
 /// U·A, V·R, U·V and V·U, and the other checks of a reduction.
@@ -446,13 +504,9 @@ fn popov_form_multiplied_out(numbered: &Numbered) -> bool {
     none(&numbered.label, faults)
 }
 
-/// The determinant at values of x, and the other checks of it; a sample that is
-/// not square has none.
+/// The determinant at values of x, and the other checks of it.
 fn determinant_at_values(numbered: &Numbered) -> bool {
     let &Sample { p, d, ref a, .. } = &numbered.sample;
-    if a.rows != a.columns {
-        return true;
-    }
     let faults = check::check_determinant(p, d, a, &reduce::reduce(p, a), &det::determinant(p, a));
     none(&numbered.label, faults)
 }

@@ -18,6 +18,18 @@ pub const SERVICES: [Service; 4] = [
     Service::Determinant,
 ];
 
+impl Service {
+    /// The name by which it is asked for.
+    pub fn name(self) -> &'static str {
+        match self {
+            Service::Reduction => "reduce",
+            Service::SingleStep => "step",
+            Service::PopovForm => "popov",
+            Service::Determinant => "determinant",
+        }
+    }
+}
+
 /// A call of a service: its numbers, its input, and the lengths of the buffers
 /// after the input, in their order.
 #[derive(Clone, Debug)]

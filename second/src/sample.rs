@@ -131,6 +131,16 @@ pub struct Sample {
 
 /// The sample of a number.
 pub fn sample(seed: u64, number: u64) -> Sample {
+    sample_of(seed, number, false)
+}
+
+/// The square sample of a number, of the same kinds; one row or one column is
+/// then one cell.
+pub fn square_sample(seed: u64, number: u64) -> Sample {
+    sample_of(seed, number, true)
+}
+
+fn sample_of(seed: u64, number: u64, square: bool) -> Sample {
     let source = &mut Source::for_number(seed, number);
     let p = modulus(source);
     let (mut n, mut m, d) = shape(source);
@@ -139,6 +149,12 @@ pub fn sample(seed: u64, number: u64) -> Sample {
         Kind::OneRow => n = 1,
         Kind::OneColumn => m = 1,
         _ => {}
+    }
+    if square {
+        (n, m) = match kind {
+            Kind::OneColumn => (m, m),
+            _ => (n, n),
+        };
     }
     let a = match kind {
         Kind::Dense | Kind::OneRow | Kind::OneColumn => dense(source, p, n, m, d),
@@ -814,6 +830,19 @@ mod tests {
         assert_eq!(kinds.len(), 12);
         assert_eq!(shapes.len(), 64);
         assert_eq!(degrees.len(), 64);
+    }
+
+    #[test]
+    fn square_samples_are_of_every_kind_and_size() {
+        let mut seen = std::collections::HashSet::new();
+        for number in 0..6000 {
+            let Sample { kind, d, a, .. } = square_sample(1, number);
+            assert_eq!(a.rows, a.columns);
+            assert!(a.greatest_degree() <= d as isize && d <= 63);
+            seen.insert((format!("{kind:?}"), a.rows));
+        }
+        // Ten kinds of eight sizes, and two of one cell.
+        assert_eq!(seen.len(), 82);
     }
 
     #[test]

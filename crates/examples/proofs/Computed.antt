@@ -7,36 +7,36 @@ use native.Mathlib.Bridge.{le-prop}
 use native.Mathlib.Nat as N
 use native.Mathlib.Omega.{arith}
 use lib.ListN.{length}
-use Rattle.algebra.specs.Field.{Field}
-use Rattle.algebra.specs.Prime.{Prime}
-use Rattle.algebra.specs.Residue.{Zp}
-use Rattle.algebra.specs.Polynomial.{Below}
-use Rattle.algebra.proofs.Primality.{prime-prop}
-use Rattle.algebra.proofs.PrimeField.{zp-field}
-use Rattle.algebra.proofs.Series.{series}
-use Rattle.lattice.specs.Row.{Row}
-use Rattle.lattice.specs.PolynomialMatrix.{AllBounded}
-use Rattle.lattice.proofs.Coefficients.{below-more}
-use Rattle.reduction.specs.Pivot.{values, index}
-use Rattle.reduction.specs.Rank.{chosen}
-use Rattle.reduction.specs.Step.{Carried, begin}
-use Rattle.reduction.proofs.Ending.{reach}
-use Rattle.reduction.proofs.Facts.{reduction-facts}
-use Rattle.popov.proofs.Facts.{popov-facts, popov-exists}
-use Rattle.determinant.specs.Determinant.{det}
-use Rattle.determinant.proofs.Degree.{det-below}
-use Rattle.pivots.specs.Pivot.{valuesOf}
-use Rattle.refusals.specs.Answering.{Told}
-use Rattle.refusals.specs.Refused.{refusalTable, reductionSizes}
-use Rattle.refusals.proofs.Answering.{InOrder, in-order, answer-done}
-use Rattle.buffers.specs.Held.{matrixOf}
-use Rattle.buffers.proofs.Held.{held-matrixOf, held-bounded}
-use Rattle.buffers.proofs.Place.{by-rows}
-use Rattle.stepping.specs.Holding.{Holding}
-use Rattle.running.specs.Listed.{maskOf}
-use Rattle.running.specs.Reduced.{ReducedBy}
-use Rattle.finishing.specs.Finishing.{PopovBy}
-use Rattle.stages.specs.Determinant.{IsDeterminant}
+use Rattle.theory_algebra.specs.Field.{Field}
+use Rattle.theory_algebra.specs.Prime.{Prime}
+use Rattle.theory_algebra.specs.Residue.{Zp}
+use Rattle.theory_algebra.specs.Polynomial.{Below}
+use Rattle.theory_algebra.proofs.Primality.{prime-prop}
+use Rattle.theory_algebra.proofs.PrimeField.{zp-field}
+use Rattle.theory_algebra.proofs.Series.{series}
+use Rattle.theory_lattice.specs.Row.{Row}
+use Rattle.theory_lattice.specs.PolynomialMatrix.{AllBounded}
+use Rattle.theory_lattice.proofs.Coefficients.{below-more}
+use Rattle.theory_reduction.specs.Pivot.{values, index}
+use Rattle.theory_reduction.specs.Rank.{chosen}
+use Rattle.theory_reduction.specs.Step.{Carried, begin}
+use Rattle.theory_reduction.proofs.Ending.{reach}
+use Rattle.theory_reduction.proofs.Facts.{reduction-facts}
+use Rattle.theory_popov.proofs.Facts.{popov-facts, popov-exists}
+use Rattle.theory_determinant.specs.Determinant.{det}
+use Rattle.theory_determinant.proofs.Degree.{det-below}
+use Rattle.matrix_pivots.specs.Pivot.{valuesOf}
+use Rattle.matrix_refusals.specs.Answering.{Told}
+use Rattle.matrix_refusals.specs.Refused.{refusalTable, reductionSizes}
+use Rattle.matrix_refusals.proofs.Answering.{InOrder, in-order, answer-done}
+use Rattle.matrix_buffers.specs.Held.{matrixOf}
+use Rattle.matrix_buffers.proofs.Held.{held-matrixOf, held-bounded}
+use Rattle.matrix_buffers.proofs.Place.{by-rows}
+use Rattle.matrix_reduction.specs.first_step.Holding.{Holding}
+use Rattle.matrix_reduction.specs.NonzeroRows.{maskOf}
+use Rattle.matrix_reduction.specs.Reduced.{ReducedBy}
+use Rattle.matrix_popov.specs.Finished.{PopovBy}
+use Rattle.matrix_determinant.specs.Determinant.{IsDeterminant}
 use Rattle.examples.specs.Answers.{Answers, ArePivots}
 use Rattle.examples.proofs.Listing.{listing, length-listing, getD-listing, written, held-written}
 

@@ -5,17 +5,17 @@ use Prim.Native.Nat.{ℕ, _+_, _*_, _/_, _%_, _<_}
 use native.Mathlib.Nat as N
 use native.Mathlib.Omega.{arith}
 use lib.ListN.{length, getD, replicate, length-replicate}
-use Rattle.algebra.specs.Prime.{Prime}
-use Rattle.algebra.specs.Residue.{Zp}
-use Rattle.algebra.proofs.PrimeField.{zp-field, field-zero}
-use Rattle.lists.specs.Change.{imap}
-use Rattle.lists.proofs.Change.{length-imap, getD-imap}
-use Rattle.lists.proofs.Grid.{within}
-use Rattle.lattice.specs.Row.{Row}
-use Rattle.lattice.specs.PolynomialMatrix.{AllBounded}
-use Rattle.buffers.specs.Held.{Held}
-use Rattle.buffers.specs.Place.{inRow, place}
-use Rattle.buffers.proofs.Place.{block-own, place-inside, by-rows}
+use Rattle.theory_algebra.specs.Prime.{Prime}
+use Rattle.theory_algebra.specs.Residue.{Zp}
+use Rattle.theory_algebra.proofs.PrimeField.{zp-field, field-zero}
+use Rattle.theory_lists.specs.Change.{imap}
+use Rattle.theory_lists.proofs.Change.{length-imap, getD-imap}
+use Rattle.theory_lists.proofs.Grid.{within}
+use Rattle.theory_lattice.specs.Row.{Row}
+use Rattle.theory_lattice.specs.PolynomialMatrix.{AllBounded}
+use Rattle.matrix_buffers.specs.Held.{Held}
+use Rattle.matrix_buffers.specs.Place.{inRow, spot}
+use Rattle.matrix_buffers.proofs.Place.{block-own, spot-inside, by-rows}
 
 -- f 0, f 1 and so on, `count` numbers
 unfoldable pub listing : ℕ → (ℕ → ℕ) → List ℕ
@@ -49,7 +49,7 @@ module _ {p : ℕ} (P : Prime p) where
       at = λ i j t li lj lt.
           let (row, in-row) = block (m * w) i (inRow w j t) (within j t m w lj lt) in
           let (col, deg) = block w j t lt in
-          getD-listing (n * (m * w)) _ (place m w i j t) (place-inside n m w i j t li lj lt)
+          getD-listing (n * (m * w)) _ (spot m w i j t) (spot-inside n m w i j t li lj lt)
           ∙ (λ s. M (row s) (in-row s / w) (in-row s % w) .val) ∙ (λ s. M i (col s) (deg s) .val);
       beyond = λ i j t li lj past. number-zero (bounded i li j lj t past);
     }

@@ -8,13 +8,13 @@ use native.Mathlib.Decide.{ℕ-discrete, decLe, decLt}
 use native.Mathlib.Nat as N
 use native.Mathlib.Omega.{arith}
 use lib.ListN.{length, getD}
-use Rattle.algebra.proofs.Cases.{case-le}
-use Rattle.algebra.proofs.Primality.{by-root}
-use Rattle.residues.specs.Modulus.{largest, Accepted}
+use Rattle.theory_algebra.proofs.Cases.{case-le}
+use Rattle.theory_algebra.proofs.Primality.{by-root}
+use Rattle.poly.specs.residues.Modulus.{largest, Accepted}
 use Rattle.poly.specs.Polynomial.{Coefficients}
-use Rattle.reduction.specs.Least.{Least, least}
-use Rattle.refusals.specs.Answering.{Row, Told}
-use Rattle.refusals.specs.Refused.{InShape, InDegree, InSquare, Zero, FirstWrong, FirstHigh, refusalTable}
+use Rattle.theory_reduction.specs.Least.{Least, least}
+use Rattle.matrix_refusals.specs.Answering.{Rule, Told}
+use Rattle.matrix_refusals.specs.Refused.{InShape, InDegree, InSquare, Zero, FirstWrong, FirstHigh, refusalTable}
 
 -- A, or else it fails and P is true of some place
 abbrev Decided : Type 0 → (ℕ → Type 0) → Type 0
@@ -26,17 +26,17 @@ zero-place f g (yes a) = inl (f a)
 zero-place f g (no h) = inr ((λ b. h (g b)), 0, refl)
 
 -- what a table says to buffers of the right sizes
-pub record Says (table : List ℕ → List Row) : Type 0 where
+pub record Says (table : List ℕ → List Rule) : Type 0 where
   pub number : ℕ
   pub place : ℕ
   pub told : (sizes : List ℕ) → Told (table sizes) number place
 
-unfoldable row : (k : ℕ) {right : Type 0} {at : ℕ → Type 0} {rows : List ℕ → List Row} → Decided right at → Says rows
+unfoldable row : (k : ℕ) {right : Type 0} {at : ℕ → Type 0} {rows : List ℕ → List Rule} → Decided right at → Says rows
     → Says (λ sizes. (k, right, at) ∷ rows sizes)
 row k (inl x) rest = record { number = rest .number; place = rest .place; told = λ sizes. inr (x, rest .told sizes) }
 row k (inr (wrong, place, at)) rest = record { number = k; place = place; told = λ sizes. inl (wrong, refl, at) }
 
-unfoldable sizes-right : (k : ℕ) {rows : List ℕ → List Row} → Says rows → Says (λ sizes. (k, sizes ≡ sizes, FirstWrong sizes sizes) ∷ rows sizes)
+unfoldable sizes-right : (k : ℕ) {rows : List ℕ → List Rule} → Says rows → Says (λ sizes. (k, sizes ≡ sizes, FirstWrong sizes sizes) ∷ rows sizes)
 sizes-right k rest = record { number = rest .number; place = rest .place; told = λ sizes. inr (refl, rest .told sizes) }
 
 -- 256 is more than the root of the largest modulus

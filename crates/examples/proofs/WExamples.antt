@@ -7,9 +7,9 @@ use mathlib.Core.Option.{Option, none, some, Option·map, bind, get}
 use Prim.Native.Nat.{ℕ, _+_, _*_}
 use native.Mathlib.Decide.{ℕ-discrete}
 use lib.ListN.{length}
-use Rattle.refusals.specs.Answering.{Told}
-use Rattle.refusals.specs.Refused.{refusalTable}
-use Rattle.stages.specs.Determinant.{IsDeterminant}
+use Rattle.matrix_refusals.specs.Answering.{Told}
+use Rattle.matrix_refusals.specs.Refused.{refusalTable}
+use Rattle.matrix_determinant.specs.Determinant.{IsDeterminant}
 use Rattle.examples.specs.Answers.{Answers, ArePivots}
 use Rattle.examples.specs.Example.{Name, named, Example, answers, pivots, determinant, refusal, Every, Gives}
 use Rattle.examples.specs.WExamples.{wExamples}

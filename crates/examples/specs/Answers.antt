@@ -3,14 +3,14 @@ use mathlib.Core.Path.{_≡_}
 use mathlib.Core.List.{List}
 use Prim.Native.Nat.{ℕ, _+_, _<_}
 use lib.ListN.{length, getD}
-use Rattle.algebra.specs.Prime.{Prime}
-use Rattle.algebra.proofs.PrimeField.{zp-field}
-use Rattle.buffers.specs.Held.{matrixOf}
-use Rattle.buffers.proofs.Place.{by-rows}
-use Rattle.reduction.specs.Pivot.{values, index}
-use Rattle.refusals.specs.Refused.{reductionSizes}
-use Rattle.matrix.specs.Answer.{lengths, Promised}
-use Rattle.matrix.specs.Popov.{PopovPromised}
+use Rattle.theory_algebra.specs.Prime.{Prime}
+use Rattle.theory_algebra.proofs.PrimeField.{zp-field}
+use Rattle.matrix_buffers.specs.Held.{matrixOf}
+use Rattle.matrix_buffers.proofs.Place.{by-rows}
+use Rattle.theory_reduction.specs.Pivot.{values, index}
+use Rattle.matrix_refusals.specs.Refused.{reductionSizes}
+use Rattle.matrix.specs.Reduction.{lengths, Promised}
+use Rattle.matrix.specs.PopovForm.{PopovPromised}
 
 -- the answers to a call of the reduction and to one of the Popov form, as these services promise them: buffers have the lengths of the
 -- paper's table, and r₀, u₀ and v₀ are what they hold at entry

@@ -3,9 +3,9 @@ use mathlib.Core.Path.{_≡_}
 use mathlib.Core.Bool.{Bool}
 use mathlib.Core.List.{List, [], _∷_}
 use Prim.Native.Nat.{ℕ}
-use Rattle.refusals.specs.Answering.{Told}
-use Rattle.refusals.specs.Refused.{refusalTable}
-use Rattle.stages.specs.Determinant.{IsDeterminant}
+use Rattle.matrix_refusals.specs.Answering.{Told}
+use Rattle.matrix_refusals.specs.Refused.{refusalTable}
+use Rattle.matrix_determinant.specs.Determinant.{IsDeterminant}
 use Rattle.examples.specs.Answers.{Answers, ArePivots}
 
 -- what an example may name of the answers: of the reduction the rank, the count, R, U and V, and of the Popov form the two counts and P

@@ -4,14 +4,14 @@ use mathlib.Core.Bool.{true}
 use mathlib.Core.List.{List}
 use Prim.Native.Nat.{ℕ, _+_, _*_}
 use native.Mathlib.Omega.{arith}
-use Rattle.algebra.specs.Prime.{Prime}
-use Rattle.buffers.proofs.Held.{held-unique}
-use Rattle.buffers.proofs.Place.{by-rows}
-use Rattle.refusals.proofs.Unique.{Said, said-refused, said-unique, answering-unique}
-use Rattle.stages.specs.Determinant.{IsDeterminant}
+use Rattle.theory_algebra.specs.Prime.{Prime}
+use Rattle.matrix_buffers.proofs.Held.{held-unique}
+use Rattle.matrix_buffers.proofs.Place.{by-rows}
+use Rattle.matrix_refusals.proofs.Unique.{Said, said-refused, said-unique, answering-unique}
+use Rattle.matrix_determinant.specs.Determinant.{IsDeterminant}
 use Rattle.matrix.specs.Determinant.{DeterminantAnswered, numbersOf}
-use Rattle.matrix.specs.declared.determining.DeterminantAnswer.{DeterminantAnswer}
-use Rattle.matrix.specs.declared.determining.DeterminantAnswer.the-variants.{NotDone, Done}
+use Rattle.matrix.specs.declared.determinant.DeterminantAnswer.{DeterminantAnswer}
+use Rattle.matrix.specs.declared.determinant.DeterminantAnswer.the-variants.{NotDone, Done}
 
 -- the input determines the result, in every place
 pub determinant-unique : {p n d : ℕ} {a r r′ : List ℕ} → Prime p → IsDeterminant p n d a r → IsDeterminant p n d a r′ → r ≡ r′

@@ -4,14 +4,14 @@ use mathlib.Core.Bool.{true}
 use mathlib.Core.List.{List, [], _∷_}
 use Prim.Native.Nat.{ℕ, _+_}
 use lib.ListN.{length}
-use Rattle.residues.specs.Modulus.{Ready}
-use Rattle.buffers.specs.Bounds.{Checked}
-use Rattle.refusals.specs.Answering.{Told}
-use Rattle.refusals.specs.Refused.{determinantSizes, refusalTable}
-use Rattle.refusals.proofs.Answering.{answer-done, InOrder, in-order, sized}
-use Rattle.stages.specs.Determinant.{DeterminantAsked, IsDeterminant}
+use Rattle.poly.specs.residues.Modulus.{Ready}
+use Rattle.matrix_buffers.specs.Bounds.{Checked}
+use Rattle.matrix_refusals.specs.Answering.{Told}
+use Rattle.matrix_refusals.specs.Refused.{determinantSizes, refusalTable}
+use Rattle.matrix_refusals.proofs.Answering.{answer-done, InOrder, in-order, sized}
+use Rattle.matrix_determinant.specs.Determinant.{DeterminantAsked, IsDeterminant}
 use Rattle.matrix.specs.Determinant.{DeterminantAnswered}
-use Rattle.matrix.specs.declared.determining.DeterminantAnswer.the-variants.{Done}
+use Rattle.matrix.specs.declared.determinant.DeterminantAnswer.the-variants.{Done}
 use Rattle.matrix.proofs.Service.{checked}
 
 -- the checks of the determinant

@@ -5,28 +5,28 @@ use mathlib.Core.List.{List}
 use Prim.Native.Nat.{ℕ, _+_, _*_, _^_, _<_}
 use native.Mathlib.Omega.{arith}
 use lib.ListN.{length, getD}
-use Rattle.algebra.specs.Prime.{Prime}
-use Rattle.algebra.proofs.PrimeField.{zp-field}
-use Rattle.lists.proofs.Total.{total-same}
+use Rattle.theory_algebra.specs.Prime.{Prime}
+use Rattle.theory_algebra.proofs.PrimeField.{zp-field}
+use Rattle.theory_lists.proofs.Total.{total-same}
 use Rattle.poly.specs.Polynomial.{Coefficients}
-use Rattle.buffers.specs.Held.{matrixOf}
-use Rattle.buffers.proofs.Place.{by-rows}
-use Rattle.buffers.proofs.Held.{held-matrixOf, held-bounded}
-use Rattle.reduction.specs.Pivot.{values}
-use Rattle.reduction.specs.Rank.{sign}
-use Rattle.reduction.proofs.Facts.{reduction-facts}
-use Rattle.refusals.specs.Refused.{reductionSizes}
-use Rattle.refusals.proofs.Answering.{InOrder, in-order}
-use Rattle.running.specs.Reduced.{ReducedBy, IsDone}
-use Rattle.matrix.specs.Answer.{lengths, Promised}
+use Rattle.matrix_buffers.specs.Held.{matrixOf}
+use Rattle.matrix_buffers.proofs.Place.{by-rows}
+use Rattle.matrix_buffers.proofs.Held.{held-matrixOf, held-bounded}
+use Rattle.theory_reduction.specs.Pivot.{values}
+use Rattle.theory_reduction.specs.Rank.{sign}
+use Rattle.theory_reduction.proofs.Facts.{reduction-facts}
+use Rattle.matrix_refusals.specs.Refused.{reductionSizes}
+use Rattle.matrix_refusals.proofs.Answering.{InOrder, in-order}
+use Rattle.matrix_reduction.specs.Reduced.{ReducedBy, IsReduction}
+use Rattle.matrix.specs.Reduction.{lengths, Promised}
 use Rattle.matrix.specs.Facts.{DoneFacts}
-use Rattle.pivots.specs.Pivot.{valuesOf}
-use Rattle.stepping.proofs.Value.{value-held}
+use Rattle.matrix_pivots.specs.Pivot.{valuesOf}
+use Rattle.matrix_reduction.proofs.first_step.Value.{value-held}
 
 -- of a matrix that is reduced
 pub done-facts : (p : ℕ) (P : Prime p) (some : 0 < p) (n m w : ℕ) (a r u v : List ℕ) (rank count rows : ℕ)
     → 0 < m → 0 < w → length a ≡ n * (m * w) → Coefficients p a
-    → IsDone p n m w a r u v rank count rows → DoneFacts p P some n m w a r u v rank count rows
+    → IsReduction p n m w a r u v rank count rows → DoneFacts p P some n m w a r u v rank count rows
 done-facts p P some n m w a r u v rank count rows columns places size residues done = record {
   t = end .t;
   holding = end .holding;

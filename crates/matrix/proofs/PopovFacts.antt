@@ -6,28 +6,28 @@ use mathlib.Core.List.{List}
 use Prim.Native.Nat.{ℕ, _+_, _<_}
 use native.Mathlib.Omega.{arith}
 use lib.ListN.{getD}
-use Rattle.algebra.specs.Matrix.{Same}
-use Rattle.algebra.specs.Prime.{Prime}
-use Rattle.algebra.specs.Residue.{Zp}
-use Rattle.algebra.proofs.PrimeField.{zp-field}
-use Rattle.lattice.specs.Row.{Row}
-use Rattle.lattice.specs.PolynomialMatrix.{AllBounded, LeftEquivalent}
-use Rattle.buffers.specs.Place.{Layout}
-use Rattle.buffers.specs.Held.{Held, matrixOf}
-use Rattle.buffers.proofs.Place.{by-rows}
-use Rattle.buffers.proofs.Held.{held-matrixOf, held-bounded, held-unique, held-same, held-matrix-same}
-use Rattle.reduction.specs.Rank.{chosen}
-use Rattle.pivots.specs.Pivot.{valuesOf}
-use Rattle.popov.specs.PopovFacts.{PopovFacts}
-use Rattle.popov.proofs.Facts.{popov-unique, popov-facts}
-use Rattle.popov.proofs.Equivalence.{popov-equivalent}
-use Rattle.refusals.specs.Refused.{reductionSizes}
-use Rattle.refusals.proofs.Answering.{InOrder, in-order}
-use Rattle.refusals.proofs.Unique.{Said, said-refused, said-unique, answering-unique}
-use Rattle.stepping.specs.Holding.{Holding}
-use Rattle.finishing.specs.Finishing.{PopovBy, IsPopov}
-use Rattle.matrix.specs.Answer.{lengths, Outcome}
-use Rattle.matrix.specs.Popov.{PopovPromised, PopovAnswered, numbersOf}
+use Rattle.theory_algebra.specs.Matrix.{Same}
+use Rattle.theory_algebra.specs.Prime.{Prime}
+use Rattle.theory_algebra.specs.Residue.{Zp}
+use Rattle.theory_algebra.proofs.PrimeField.{zp-field}
+use Rattle.theory_lattice.specs.Row.{Row}
+use Rattle.theory_lattice.specs.PolynomialMatrix.{AllBounded, LeftEquivalent}
+use Rattle.matrix_buffers.specs.Place.{Layout}
+use Rattle.matrix_buffers.specs.Held.{Held, matrixOf}
+use Rattle.matrix_buffers.proofs.Place.{by-rows}
+use Rattle.matrix_buffers.proofs.Held.{held-matrixOf, held-bounded, held-unique, held-same, held-matrix-same}
+use Rattle.theory_reduction.specs.Rank.{chosen}
+use Rattle.matrix_pivots.specs.Pivot.{valuesOf}
+use Rattle.theory_popov.specs.PopovFacts.{PopovFacts}
+use Rattle.theory_popov.proofs.Facts.{popov-unique, popov-facts}
+use Rattle.theory_popov.proofs.Equivalence.{popov-equivalent}
+use Rattle.matrix_refusals.specs.Refused.{reductionSizes}
+use Rattle.matrix_refusals.proofs.Answering.{InOrder, in-order}
+use Rattle.matrix_refusals.proofs.Unique.{Said, said-refused, said-unique, answering-unique}
+use Rattle.matrix_reduction.specs.first_step.Holding.{Holding}
+use Rattle.matrix_popov.specs.Finished.{PopovBy, IsPopov}
+use Rattle.matrix.specs.Reduction.{lengths, Outcome}
+use Rattle.matrix.specs.PopovForm.{PopovPromised, PopovAnswered, numbersOf}
 use Rattle.matrix.specs.declared.popov_form.PopovAnswer.{PopovAnswer}
 use Rattle.matrix.specs.declared.popov_form.PopovAnswer.the-variants.{NotDone, Done}
 use Rattle.matrix.proofs.Unique.{holding-unique}

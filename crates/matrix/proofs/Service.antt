@@ -5,18 +5,18 @@ use mathlib.Core.List.{List, _∷_}
 use Prim.Native.Nat.{ℕ, _+_, _*_, _<_}
 use native.Mathlib.Omega.{arith}
 use lib.ListN.{length}
-use Rattle.residues.specs.Modulus.{Ready}
-use Rattle.buffers.specs.Bounds.{Checked}
-use Rattle.buffers.specs.Diagonal.{Diagonal}
-use Rattle.rows.specs.Asked.{Square}
-use Rattle.refusals.specs.Answering.{Told}
-use Rattle.refusals.specs.Refused.{reductionSizes, refusalTable}
-use Rattle.checking.proofs.Verdicts.{in-bounds}
-use Rattle.refusals.proofs.Answering.{answer-done, InOrder, in-order, sized}
-use Rattle.running.specs.Asked.{StartAsked}
-use Rattle.running.specs.Reduced.{IsDone}
-use Rattle.matrix.specs.Answer.{lengths, Answered}
-use Rattle.matrix.specs.declared.reducing.Answer.the-variants.{Done}
+use Rattle.poly.specs.residues.Modulus.{Ready}
+use Rattle.matrix_buffers.specs.Bounds.{Checked}
+use Rattle.matrix_buffers.specs.Diagonal.{Diagonal}
+use Rattle.matrix_rows.specs.Asked.{Square}
+use Rattle.matrix_refusals.specs.Answering.{Told}
+use Rattle.matrix_refusals.specs.Refused.{reductionSizes, refusalTable}
+use Rattle.matrix_refusals.proofs.checks.Verdicts.{in-bounds}
+use Rattle.matrix_refusals.proofs.Answering.{answer-done, InOrder, in-order, sized}
+use Rattle.matrix_reduction.specs.Asked.{StartAsked}
+use Rattle.matrix_reduction.specs.Reduced.{IsReduction}
+use Rattle.matrix.specs.Reduction.{lengths, Answered}
+use Rattle.matrix.specs.declared.reduction.Answer.the-variants.{Done}
 
 -- the input of a service whose checks have passed, or a copy of it
 pub checked : {determinant : Bool} {p n m d : ℕ} {given wanted a : List ℕ}
@@ -55,6 +55,6 @@ module _ {p n m d : ℕ} {a r u v : List ℕ} (passed : Passed p n m d a r u v) 
   start-asked q-is ready r-is u-one v-one = record { input = checked order q-is ready r-is; u-one = u-one; v-one = v-one }
 
   -- the reduction of the copy is that of the input
-  pub answered : {q rank count rows : ℕ} {b r′ u′ v′ : List ℕ} → q ≡ p → b ≡ a → IsDone q n m (d + 1) b r′ u′ v′ rank count rows
+  pub answered : {q rank count rows : ℕ} {b r′ u′ v′ : List ℕ} → q ≡ p → b ≡ a → IsReduction q n m (d + 1) b r′ u′ v′ rank count rows
       → Answered p n m d a r u v r′ u′ v′ (Done rank count rows)
   answered q-is b-is done = answer-done (passed .told) (rw (sym q-is) (rw (sym b-is) done))

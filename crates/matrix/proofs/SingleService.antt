@@ -4,14 +4,14 @@ use mathlib.Core.Bool.{false}
 use mathlib.Core.List.{List, [], _∷_}
 use Prim.Native.Nat.{ℕ, _+_}
 use lib.ListN.{length}
-use Rattle.residues.specs.Modulus.{Ready}
-use Rattle.buffers.specs.Bounds.{Checked}
-use Rattle.refusals.specs.Answering.{Told}
-use Rattle.refusals.specs.Refused.{stepSizes, refusalTable}
-use Rattle.refusals.proofs.Answering.{answer-done, InOrder, in-order, sized}
-use Rattle.running.specs.SteppedOnce.{SteppedOnce}
-use Rattle.matrix.specs.Single.{StepAnswered}
-use Rattle.matrix.specs.declared.single.StepAnswer.the-variants.{Done}
+use Rattle.poly.specs.residues.Modulus.{Ready}
+use Rattle.matrix_buffers.specs.Bounds.{Checked}
+use Rattle.matrix_refusals.specs.Answering.{Told}
+use Rattle.matrix_refusals.specs.Refused.{stepSizes, refusalTable}
+use Rattle.matrix_refusals.proofs.Answering.{answer-done, InOrder, in-order, sized}
+use Rattle.matrix_reduction.specs.SteppedOnce.{SteppedOnce}
+use Rattle.matrix.specs.SingleStep.{StepAnswered}
+use Rattle.matrix.specs.declared.single_step.StepAnswer.the-variants.{Done}
 use Rattle.matrix.proofs.Service.{checked}
 
 -- the checks of the single step

@@ -5,29 +5,29 @@ use mathlib.Core.Logic.{_⊎_, inl, inr}
 use mathlib.Core.List.{List}
 use Prim.Native.Nat.{ℕ, _*_}
 use native.Mathlib.Omega.{arith}
-use Rattle.algebra.specs.Prime.{Prime}
-use Rattle.algebra.specs.Residue.{Zp}
-use Rattle.algebra.proofs.PrimeField.{zp-field}
-use Rattle.buffers.proofs.Held.{held-unique}
-use Rattle.buffers.proofs.Place.{by-rows}
-use Rattle.reduction.specs.Pair.{Pair, NoPair}
-use Rattle.reduction.specs.Rank.{chosen}
-use Rattle.reduction.specs.Step.{Carried}
-use Rattle.reduction.proofs.Ending.{runs-unique}
-use Rattle.reduction.proofs.Pair.{pair-exclusive}
-use Rattle.pivots.specs.Pivot.{valueOf, rowOf}
-use Rattle.refusals.proofs.Unique.{Said, said-refused, said-unique, answering-unique}
-use Rattle.stepping.specs.Holding.{Holding}
-use Rattle.running.specs.Listed.{maskOf}
-use Rattle.running.specs.Reduced.{Reduced, IsDone}
-use Rattle.running.specs.SteppedOnce.{SteppedOnce}
-use Rattle.matrix.specs.Answer.{numbersOf, Outcome, Answered}
-use Rattle.matrix.specs.Single.{StepAnswered}
-use Rattle.matrix.specs.Single as Single
-use Rattle.matrix.specs.declared.single.StepAnswer.{StepAnswer}
-use Rattle.matrix.specs.declared.single.StepAnswer.the-variants as Step
-use Rattle.matrix.specs.declared.reducing.Answer.{Answer}
-use Rattle.matrix.specs.declared.reducing.Answer.the-variants.{NotDone, Done}
+use Rattle.theory_algebra.specs.Prime.{Prime}
+use Rattle.theory_algebra.specs.Residue.{Zp}
+use Rattle.theory_algebra.proofs.PrimeField.{zp-field}
+use Rattle.matrix_buffers.proofs.Held.{held-unique}
+use Rattle.matrix_buffers.proofs.Place.{by-rows}
+use Rattle.theory_reduction.specs.Pair.{Pair, NoPair}
+use Rattle.theory_reduction.specs.Rank.{chosen}
+use Rattle.theory_reduction.specs.Step.{Carried}
+use Rattle.theory_reduction.proofs.Ending.{runs-unique}
+use Rattle.theory_reduction.proofs.Pair.{pair-exclusive}
+use Rattle.matrix_pivots.specs.Pivot.{valueOf, rowOf}
+use Rattle.matrix_refusals.proofs.Unique.{Said, said-refused, said-unique, answering-unique}
+use Rattle.matrix_reduction.specs.first_step.Holding.{Holding}
+use Rattle.matrix_reduction.specs.NonzeroRows.{maskOf}
+use Rattle.matrix_reduction.specs.Reduced.{Reduced, IsReduction}
+use Rattle.matrix_reduction.specs.SteppedOnce.{SteppedOnce}
+use Rattle.matrix.specs.Reduction.{numbersOf, Outcome, Answered}
+use Rattle.matrix.specs.SingleStep.{StepAnswered}
+use Rattle.matrix.specs.SingleStep as Single
+use Rattle.matrix.specs.declared.single_step.StepAnswer.{StepAnswer}
+use Rattle.matrix.specs.declared.single_step.StepAnswer.the-variants as Step
+use Rattle.matrix.specs.declared.reduction.Answer.{Answer}
+use Rattle.matrix.specs.declared.reduction.Answer.the-variants.{NotDone, Done}
 
 -- the state determines the three buffers
 pub holding-unique : {p n m w : ℕ} {r u v r′ u′ v′ : List ℕ} {t : Carried (Zp p)} → Holding p n m w r u v t → Holding p n m w r′ u′ v′ t
@@ -47,7 +47,7 @@ reduced-unique p n m w c c′ a r u v r′ u′ v′ P x y =
 
 -- so it determines all that is returned, for rank and rows are read off the result
 pub done-unique : {p n m w rank count rows rank′ count′ rows′ : ℕ} {a r u v r′ u′ v′ : List ℕ} → Prime p
-    → IsDone p n m w a r u v rank count rows → IsDone p n m w a r′ u′ v′ rank′ count′ rows′
+    → IsReduction p n m w a r u v rank count rows → IsReduction p n m w a r′ u′ v′ rank′ count′ rows′
     → _≡_ {A = Outcome} (rank, count, rows, r, u, v) (rank′, count′, rows′, r′, u′, v′)
 done-unique {p} {n} {m} {w} {rank} {count} {rows} {rank′} {count′} {rows′} {a} {r} {u} {v} {r′} {u′} {v′} P x y =
     let (counts, same-r, same-u, same-v) = reduced-unique p n m w count count′ a r u v r′ u′ v′ P (x .reduced) (y .reduced) in

@@ -3,12 +3,12 @@ use mathlib.Core.Bool.{true}
 use mathlib.Core.List.{List, [], _∷_}
 use Prim.Native.Nat.{ℕ}
 use lib.ListN.{length}
-use Rattle.refusals.specs.Number.{numberOf, placeOf}
-use Rattle.refusals.specs.Answering.{Answering}
-use Rattle.refusals.specs.Refused.{determinantSizes, refusalTable}
-use Rattle.stages.specs.Determinant.{IsDeterminant}
-use Rattle.matrix.specs.declared.determining.DeterminantAnswer.{DeterminantAnswer}
-use Rattle.matrix.specs.declared.determining.DeterminantAnswer.the-variants.{NotDone, Done}
+use Rattle.matrix_refusals.specs.Number.{numberOf, placeOf}
+use Rattle.matrix_refusals.specs.Answering.{Answering}
+use Rattle.matrix_refusals.specs.Refused.{determinantSizes, refusalTable}
+use Rattle.matrix_determinant.specs.Determinant.{IsDeterminant}
+use Rattle.matrix.specs.declared.determinant.DeterminantAnswer.{DeterminantAnswer}
+use Rattle.matrix.specs.declared.determinant.DeterminantAnswer.the-variants.{NotDone, Done}
 
 -- the numbers of an answer: its number and its place
 abbrev pub numbersOf : DeterminantAnswer → ℕ × ℕ

@@ -2,17 +2,17 @@
 use mathlib.Core.Path.{_≡_}
 use mathlib.Core.List.{List}
 use Prim.Native.Nat.{ℕ, _<_}
-use Rattle.algebra.specs.Prime.{Prime}
-use Rattle.algebra.specs.Residue.{Zp}
-use Rattle.algebra.proofs.PrimeField.{zp-field}
-use Rattle.buffers.specs.Held.{matrixOf}
-use Rattle.buffers.proofs.Place.{by-rows}
-use Rattle.reduction.specs.Pivot.{values}
-use Rattle.reduction.specs.Rank as Rank
-use Rattle.reduction.specs.ReductionFacts.{ReductionFacts}
-use Rattle.reduction.specs.Step.{Carried}
-use Rattle.stepping.specs.Holding.{Holding}
-use Rattle.running.specs.Listed.{maskOf}
+use Rattle.theory_algebra.specs.Prime.{Prime}
+use Rattle.theory_algebra.specs.Residue.{Zp}
+use Rattle.theory_algebra.proofs.PrimeField.{zp-field}
+use Rattle.matrix_buffers.specs.Held.{matrixOf}
+use Rattle.matrix_buffers.proofs.Place.{by-rows}
+use Rattle.theory_reduction.specs.Pivot.{values}
+use Rattle.theory_reduction.specs.Rank as Rank
+use Rattle.theory_reduction.specs.ReductionFacts.{ReductionFacts}
+use Rattle.theory_reduction.specs.Step.{Carried}
+use Rattle.matrix_reduction.specs.first_step.Holding.{Holding}
+use Rattle.matrix_reduction.specs.NonzeroRows.{maskOf}
 
 -- A is the matrix in a, over Z/p; r, u and v are the buffers at the end, and rank, count and rows the answer
 pub record DoneFacts (p : ℕ) (P : Prime p) (some : 0 < p) (n m w : ℕ) (a r u v : List ℕ) (rank count rows : ℕ) : Type 0 where

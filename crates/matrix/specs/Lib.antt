@@ -1,5 +1,5 @@
-pub mod Answer
+pub mod Reduction
 pub mod Facts
-pub mod Single
-pub mod Popov
+pub mod SingleStep
+pub mod PopovForm
 pub mod Determinant

@@ -1,5 +1,5 @@
 // Reduction of matrices of polynomials, on buffers that the caller lends.
-pub mod determining;
+pub mod determinant;
 pub mod popov_form;
-pub mod reducing;
-pub mod single;
+pub mod reduction;
+pub mod single_step;

@@ -3,7 +3,7 @@ use mathlib.Core.Path.{_≡_, sym, _∙_}
 use mathlib.Core.Bool.{true, false}
 use mathlib.Core.List.{List}
 use Prim.Native.Nat.{ℕ}
-use Rattle.refusals.proofs.Unique.{answering-unique}
+use Rattle.matrix_refusals.proofs.Unique.{answering-unique}
 use Rattle.matrix.proofs.Unique.{done-unique, stepped-unique}
 use Rattle.matrix.proofs.PopovFacts.{popov-done-unique}
 use Rattle.matrix.proofs.DeterminantFacts.{determinant-unique}

@@ -2,18 +2,18 @@
 use mathlib.Core.Path.{_≡_}
 use mathlib.Core.List.{List}
 use Prim.Native.Nat.{ℕ}
-use Rattle.matrix.specs.Answer as Reduction
-use Rattle.matrix.specs.Answer.{Promised}
-use Rattle.matrix.specs.Single as Step
-use Rattle.matrix.specs.Single.{StepPromised}
-use Rattle.matrix.specs.Popov as Popov
-use Rattle.matrix.specs.Popov.{PopovPromised}
+use Rattle.matrix.specs.Reduction as Reduction
+use Rattle.matrix.specs.Reduction.{Promised}
+use Rattle.matrix.specs.SingleStep as Step
+use Rattle.matrix.specs.SingleStep.{StepPromised}
+use Rattle.matrix.specs.PopovForm as Popov
+use Rattle.matrix.specs.PopovForm.{PopovPromised}
 use Rattle.matrix.specs.Determinant as Determinant
 use Rattle.matrix.specs.Determinant.{DeterminantPromised}
-use Rattle.matrix.specs.declared.reducing.Answer.{Answer}
-use Rattle.matrix.specs.declared.single.StepAnswer.{StepAnswer}
+use Rattle.matrix.specs.declared.reduction.Answer.{Answer}
+use Rattle.matrix.specs.declared.single_step.StepAnswer.{StepAnswer}
 use Rattle.matrix.specs.declared.popov_form.PopovAnswer.{PopovAnswer}
-use Rattle.matrix.specs.declared.determining.DeterminantAnswer.{DeterminantAnswer}
+use Rattle.matrix.specs.declared.determinant.DeterminantAnswer.{DeterminantAnswer}
 use Rattle.moorbesen.specs.declared.Reply.{Reply}
 use Rattle.moorbesen.specs.declared.PopovReply.{PopovReply}
 use Rattle.moorbesen.specs.declared.DeterminantReply.{DeterminantReply}

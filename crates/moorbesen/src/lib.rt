@@ -1,14 +1,14 @@
 // The services for programs in C: each forwards to the matrix crate and tells the answer by its numbers.
 ghost use mathlib.Core.Path.{_≡_};
 ghost use Rattle.moorbesen.specs.Reply.{replyOf, stepReplyOf, popovReplyOf, determinantReplyOf, Replied, StepReplied, PopovReplied, DeterminantReplied};
-use matrix::determining;
-use matrix::determining::DeterminantAnswer;
+use matrix::determinant;
+use matrix::determinant::DeterminantAnswer;
 use matrix::popov_form;
 use matrix::popov_form::PopovAnswer;
-use matrix::reducing;
-use matrix::reducing::Answer;
-use matrix::single;
-use matrix::single::StepAnswer;
+use matrix::reduction;
+use matrix::reduction::Answer;
+use matrix::single_step;
+use matrix::single_step::StepAnswer;
 
 // In `rows`, bit i - 1 stands for row i.
 #[repr(C)]
@@ -25,8 +25,8 @@ fn reply_of(x: Answer) -> Reply
 {
     match x {
         Answer::NotDone(x) => Reply {
-            number: refusals::number_of(x),
-            place: refusals::place_of(x),
+            number: matrix_refusals::number_of(x),
+            place: matrix_refusals::place_of(x),
             rank: 0,
             count: 0,
             rows: 0,
@@ -54,7 +54,7 @@ pub extern "C" fn moorbesen_reduce(
 ) -> Reply
     ensures { λ x. ⌜ Replied p n m d (now (a .entry)) (now (r .entry)) (now (u .entry)) (now (v .entry)) (now (r .exit)) (now (u .exit)) (now (v .exit)) x ⌝ }
 {
-    reply_of(reducing::reduce(p, n, m, d, a, r, u, v))
+    reply_of(reduction::reduce(p, n, m, d, a, r, u, v))
 }
 
 // A single step has no rank and no list of rows: both are 0.
@@ -82,7 +82,7 @@ pub extern "C" fn moorbesen_step(
 ) -> Reply
     ensures { λ x. ⌜ StepReplied p n m d (now (a .entry)) (now (r .entry)) (now (r .exit)) x ⌝ }
 {
-    step_reply_of(single::step(p, n, m, d, a, r))
+    step_reply_of(single_step::step(p, n, m, d, a, r))
 }
 
 // The two counts are those of the first and of the second kind.
@@ -100,8 +100,8 @@ fn popov_reply_of(x: PopovAnswer) -> PopovReply
 {
     match x {
         PopovAnswer::NotDone(x) => PopovReply {
-            number: refusals::number_of(x),
-            place: refusals::place_of(x),
+            number: matrix_refusals::number_of(x),
+            place: matrix_refusals::place_of(x),
             rank: 0,
             first: 0,
             second: 0,
@@ -147,8 +147,8 @@ fn determinant_reply_of(x: DeterminantAnswer) -> DeterminantReply
 {
     match x {
         DeterminantAnswer::NotDone(x) => DeterminantReply {
-            number: refusals::number_of(x),
-            place: refusals::place_of(x),
+            number: matrix_refusals::number_of(x),
+            place: matrix_refusals::place_of(x),
         },
         DeterminantAnswer::Done => DeterminantReply {
             number: 0,
@@ -168,5 +168,5 @@ pub extern "C" fn moorbesen_determinant(
 ) -> DeterminantReply
     ensures { λ x. ⌜ DeterminantReplied p n m d (now (a .entry)) (now (r .entry)) (now (r .exit)) x ⌝ }
 {
-    determinant_reply_of(determining::determinant(p, n, m, d, a, r))
+    determinant_reply_of(determinant::determinant(p, n, m, d, a, r))
 }

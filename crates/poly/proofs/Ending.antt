@@ -12,11 +12,11 @@ use lib.IntN.{pos, predℤ}
 use lib.ListN.{length, getD}
 use mir.Syntax.{w64}
 use mir.Val.{toZ}
-use Rattle.lists.specs.Part.{part}
-use Rattle.lists.proofs.Change.{getD-past}
-use Rattle.lists.proofs.Last.{last-is, last-unique}
-use Rattle.lists.proofs.Part.{length-part, getD-part}
-use Rattle.poly.specs.Polynomial.{height, leadingOf, SamePolynomial}
+use Rattle.theory_lists.specs.Part.{part}
+use Rattle.theory_lists.proofs.Change.{getD-past}
+use Rattle.theory_lists.proofs.Last.{last-is, last-unique}
+use Rattle.theory_lists.proofs.Part.{length-part, getD-part}
+use Rattle.poly.specs.Polynomial.{usedPlaces, leadingOf, SamePolynomial}
 
 -- the first i places are zero
 abbrev pub ZerosBelow : List ℕ → ℕ → Type 0
@@ -67,19 +67,19 @@ ends-part l s n e le z = ends-lower l s n e le (λ i h k.
     ∙ sym (getD-part s (n - s) l fits (i - s) (omega arith))
     ∙ z (i - s) (omega (arith, length-part s (n - s) l fits)))
 
-pub ends-height : (l : List ℕ) → Ends l (height l)
+pub ends-height : (l : List ℕ) → Ends l (usedPlaces l)
 ends-height l = let x = last-is (length l) (λ i. getD l i 0) in record {
   within = x .within;
   zeros = λ i h. elim (decLe (length l) i) [ yes past ↦ getD-past l i past | no before ↦ x .zeros i h (omega arith) ];
 }
 
 -- the last that is not zero is the one before n
-pub ends-at : (l : List ℕ) (n : ℕ) → Ends l n → (0 < n → getD l (n - 1) 0 ≢ 0) → n ≡ height l
+pub ends-at : (l : List ℕ) (n : ℕ) → Ends l n → (0 < n → getD l (n - 1) 0 ≢ 0) → n ≡ usedPlaces l
 ends-at l n e top = sym (last-unique (length l) (λ i. getD l i 0) n (record { within = e .within; zeros = λ i h _. e .zeros i h; top = top }))
 
 -- the zero polynomial has no leading coefficient
-pub leading-none : (l : List ℕ) → height l ≡ 0 → leadingOf l ≡ 0
-leading-none l z = ends-height l .zeros (height l - 1) (omega arith)
+pub leading-none : (l : List ℕ) → usedPlaces l ≡ 0 → leadingOf l ≡ 0
+leading-none l z = ends-height l .zeros (usedPlaces l - 1) (omega arith)
 
 -- the degree of a polynomial that is not zero, as the machine has it
 pub machine-degree : (h n : ℕ) → n ≡ h → 0 < n → n ≤ 2 ^ 63 → toZ w64 (n - 1) ≡ predℤ (pos h)
@@ -90,25 +90,25 @@ machine-degree h n e po fits = simp (lt-ltb (n - 1) (2 ^ 63) (omega arith)) (sym
 
 module _ (a b : List ℕ) where
   -- the same polynomial ends at the same place
-  pub same-height : SamePolynomial a b → height a ≡ height b
-  same-height s = sym (ends-at a (height b) ends some)
+  pub same-height : SamePolynomial a b → usedPlaces a ≡ usedPlaces b
+  same-height s = sym (ends-at a (usedPlaces b) ends some)
     where
-      some : 0 < height b → getD a (height b - 1) 0 ≢ 0
-      some h z = last-is (length b) (λ i. getD b i 0) .top h (sym (s .same (height b - 1)) ∙ z)
+      some : 0 < usedPlaces b → getD a (usedPlaces b - 1) 0 ≢ 0
+      some h z = last-is (length b) (λ i. getD b i 0) .top h (sym (s .same (usedPlaces b - 1)) ∙ z)
 
-      ends : Ends a (height b)
+      ends : Ends a (usedPlaces b)
       ends = record {
-        within = elim (decLe (height b) (length a)) [
+        within = elim (decLe (usedPlaces b) (length a)) [
           | yes in-a ↦ in-a
-          | no past ↦ absurd (some (omega arith) (getD-past a (height b - 1) (omega arith)))
+          | no past ↦ absurd (some (omega arith) (getD-past a (usedPlaces b - 1) (omega arith)))
         ];
         zeros = λ i h. s .same i ∙ ends-height b .zeros i h;
       }
 
   -- where the loop stands that compares two lists that end at n, having come to i
   pub record Comparing (n i : ℕ) : Type 0 where
-    pub first : n ≡ height a
-    pub second : n ≡ height b
+    pub first : n ≡ usedPlaces a
+    pub second : n ≡ usedPlaces b
     pub to : i ≤ n
     pub same : (j : ℕ) → j < i → getD a j 0 ≡ getD b j 0
 

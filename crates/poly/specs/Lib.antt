@@ -1,2 +1,4 @@
 pub mod Polynomial
-pub mod Reading
+pub mod Holds
+pub mod residues
+pub mod arithmetic

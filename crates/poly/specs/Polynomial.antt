@@ -4,23 +4,23 @@ use mathlib.Core.Path.{_≡_}
 use mathlib.Core.List.{List}
 use lib.IntN.{ℤ, pos, predℤ}
 use lib.ListN.{length, getD}
-use Rattle.lists.specs.Last.{lastNonzero}
+use Rattle.theory_lists.specs.Last.{lastNonzero}
 
 -- "Coefficients are 16-bit numbers below p."
 pub record Coefficients (p : ℕ) (l : List ℕ) : Type 0 where
   pub below : (i : ℕ) → i < length l → getD l i 0 < p
 
 -- the number of places up to the last coefficient that is not zero: one more than the degree, and 0 for the zero polynomial
-abbrev pub height : List ℕ → ℕ
-height l = lastNonzero (length l) (λ i. getD l i 0)
+abbrev pub usedPlaces : List ℕ → ℕ
+usedPlaces l = lastNonzero (length l) (λ i. getD l i 0)
 
 -- "The degree of the zero polynomial counts as -1 here."
 abbrev pub degreeOf : List ℕ → ℤ
-degreeOf l = predℤ (pos (height l))
+degreeOf l = predℤ (pos (usedPlaces l))
 
 -- the coefficient at the degree, and 0 for the zero polynomial
 abbrev pub leadingOf : List ℕ → ℕ
-leadingOf l = getD l (height l - 1) 0
+leadingOf l = getD l (usedPlaces l - 1) 0
 
 -- the same polynomial: equal coefficients at every degree, a place that is not there counting as 0
 pub record SamePolynomial (a b : List ℕ) : Type 0 where

@@ -4,8 +4,8 @@ ghost use mathlib.Core.Bool.{true};
 ghost use mathlib.Core.Logic.{_↔_};
 ghost use Prim.Native.Nat.{ℕ, _<_, _≤_};
 ghost use lib.ListN.{length, getD};
-ghost use Rattle.poly.specs.Polynomial.{degreeOf, height, leadingOf, SamePolynomial};
-use residues::Residue;
+ghost use Rattle.poly.specs.Polynomial.{degreeOf, usedPlaces, leadingOf, SamePolynomial};
+use crate::residues::Residue;
 
 // The degree of a polynomial, -1 for zero.
 pub struct Degree(pub i64);
@@ -40,7 +40,7 @@ fn skip(a: &[u16]) -> usize
 
 // The places up to the last coefficient that is not zero.
 pub fn used(a: &[u16]) -> usize
-    ensures { λ r. ⌜ (r ≡ height (now (a .entry))) × (r ≤ length (now (a .entry))) ⌝ }
+    ensures { λ r. ⌜ (r ≡ usedPlaces (now (a .entry))) × (r ≤ length (now (a .entry))) ⌝ }
 {
     let mut n = skip(a);
     while 0 < n {

@@ -4,9 +4,9 @@ use mathlib.Core.Bool.{true, false}
 use mathlib.Core.List.{List}
 use Prim.Native.Nat.{ℕ, _+_, _≤_}
 use lib.ListN.{length}
-use Rattle.residues.specs.Modulus.{Accepted}
-use Rattle.arithmetic.specs.Operations.{productOf}
-use Rattle.algebra.proofs.Flag.{true-false, says-yes, says-no}
+use Rattle.poly.specs.residues.Modulus.{Accepted}
+use Rattle.poly.specs.arithmetic.Operations.{productOf}
+use Rattle.theory_algebra.proofs.Flag.{true-false, says-yes, says-no}
 use Rattle.poly_bench.specs.Rounds.{repeated, Summed, Added, Multiplied}
 
 pub add-refused : (c e p rounds : ℕ) (a b : List ℕ) → (Accepted p × (e + length b ≤ length a) → ⊥) → Added c e p rounds a b a b false

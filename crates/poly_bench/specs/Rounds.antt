@@ -5,8 +5,8 @@ use mathlib.Core.Bool.{Bool, true, false}
 use mathlib.Core.List.{List}
 use mathlib.Core.Logic.{_↔_}
 use lib.ListN.{length}
-use Rattle.residues.specs.Modulus.{Accepted}
-use Rattle.arithmetic.specs.Operations.{plusMultiple, productOf, scaledBy}
+use Rattle.poly.specs.residues.Modulus.{Accepted}
+use Rattle.poly.specs.arithmetic.Operations.{plusMultiple, productOf, scaledBy}
 
 -- g applied n times
 unfoldable pub repeated : ℕ → (List ℕ → List ℕ) → List ℕ → List ℕ

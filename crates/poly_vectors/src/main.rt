@@ -2,12 +2,13 @@
 // has what they should print; expected.py, which shares no code with them, works it out.
 use libc::STDOUT_FILENO;
 use poly::Degree;
+use poly::Modulus;
+use poly::Residue;
+use poly::arithmetic;
 use poly::polynomial;
-use residues::Modulus;
-use residues::Residue;
 ghost use Prim.Native.Nat.{_<_, _≤_};
-ghost use Rattle.algebra.specs.Prime.{Prime};
-ghost use Rattle.residues.specs.Modulus.{Accepted, Ready};
+ghost use Rattle.theory_algebra.specs.Prime.{Prime};
+ghost use Rattle.poly.specs.residues.Modulus.{Accepted, Ready};
 ghost use Rattle.poly.specs.Polynomial.{Coefficients};
 
 fn say(label: &[u8], n: u64) {
@@ -51,15 +52,15 @@ fn say_degree(a: &[u16]) {
 }
 
 // The four operations on a and b, of which b is not zero.
-fn say_residues(a: Residue, b: Residue, m: Modulus)
-    requires { ⌜ Ready (m .p) (m .reciprocal) ⌝ }
-    requires { ⌜ Prime (m .p) ⌝ }
-    requires { ⌜ (a .0 < m .p) × (0 < b .0) × (b .0 < m .p) ⌝ }
+fn say_residues(a: Residue, b: Residue, md: Modulus)
+    requires { ⌜ Ready (md .p) (md .reciprocal) ⌝ }
+    requires { ⌜ Prime (md .p) ⌝ }
+    requires { ⌜ (a .0 < md .p) × (0 < b .0) × (b .0 < md .p) ⌝ }
 {
-    let inverse = b.inverse(m);
-    let product = a.product(b, m);
-    let difference = a.difference(b, m);
-    let sum = a.sum(b, m);
+    let inverse = b.inverse(md);
+    let product = a.product(b, md);
+    let difference = a.difference(b, md);
+    let sum = a.sum(b, md);
     say(b"residues ", a.0 as u64);
     say(b" ", b.0 as u64);
     say(b" sum ", sum.0 as u64);
@@ -83,12 +84,12 @@ fn mix(a: &mut [u16], seed: u32)
 }
 
 // The same, modulo p.
-fn fill(a: &mut [u16], seed: u32, m: Modulus)
-    requires { ⌜ Ready (m .p) (m .reciprocal) × (seed < 65536) ⌝ }
-    ensures { λ _. ⌜ Coefficients (m .p) (now (a .exit)) ⌝ }
+fn fill(a: &mut [u16], seed: u32, md: Modulus)
+    requires { ⌜ Ready (md .p) (md .reciprocal) × (seed < 65536) ⌝ }
+    ensures { λ _. ⌜ Coefficients (md .p) (now (a .exit)) ⌝ }
 {
     mix(a, seed);
-    arithmetic::scale(a, Residue::ONE, m);
+    arithmetic::scale(a, Residue::ONE, md);
 }
 
 // Of the zero polynomial, a constant and x^63, whose low zeros count.
@@ -104,15 +105,15 @@ fn say_edges() {
 }
 
 // c·x^e times a polynomial of degree up to 63, added to one of degree up to 127.
-fn say_multiple(c: u32, e: usize, seed: u32, m: Modulus)
-    requires { ⌜ Ready (m .p) (m .reciprocal) × (e ≤ 64) × (seed < 60000) ⌝ }
+fn say_multiple(c: u32, e: usize, seed: u32, md: Modulus)
+    requires { ⌜ Ready (md .p) (md .reciprocal) × (e ≤ 64) × (seed < 60000) ⌝ }
 {
     let mut a = [0u16; 128];
     let mut b = [0u16; 64];
-    fill(&mut a, seed, m);
-    fill(&mut b, seed + 1, m);
-    let c = Residue::of(c, m);
-    arithmetic::add_multiple(&mut a, &b, c, e, m);
+    fill(&mut a, seed, md);
+    fill(&mut b, seed + 1, md);
+    let c = Residue::of(c, md);
+    arithmetic::add_multiple(&mut a, &b, c, e, md);
     say(b"factor ", c.0 as u64);
     say(b" exponent ", e as u64);
     end_line();
@@ -120,27 +121,27 @@ fn say_multiple(c: u32, e: usize, seed: u32, m: Modulus)
     say_degree(&a);
 }
 
-fn say_product(seed: u32, m: Modulus)
-    requires { ⌜ Ready (m .p) (m .reciprocal) × (seed < 60000) ⌝ }
+fn say_product(seed: u32, md: Modulus)
+    requires { ⌜ Ready (md .p) (md .reciprocal) × (seed < 60000) ⌝ }
 {
     let mut a = [0u16; 64];
     let mut b = [0u16; 64];
     let mut out = [0u16; 127];
-    fill(&mut a, seed, m);
-    fill(&mut b, seed + 1, m);
-    arithmetic::product(&a, &b, &mut out, m);
+    fill(&mut a, seed, md);
+    fill(&mut b, seed + 1, md);
+    arithmetic::product(&a, &b, &mut out, md);
     say_polynomial(b"product:", &out);
     say_degree(&out);
 }
 
-fn say_scaled(c: u32, seed: u32, m: Modulus)
-    requires { ⌜ Ready (m .p) (m .reciprocal) × (seed < 60000) ⌝ }
+fn say_scaled(c: u32, seed: u32, md: Modulus)
+    requires { ⌜ Ready (md .p) (md .reciprocal) × (seed < 60000) ⌝ }
 {
     let mut a = [0u16; 64];
     let mut b = [0u16; 64];
-    fill(&mut a, seed, m);
+    fill(&mut a, seed, md);
     arithmetic::copy(&a, &mut b);
-    arithmetic::scale(&mut a, Residue::of(c, m), m);
+    arithmetic::scale(&mut a, Residue::of(c, md), md);
     say_polynomial(b"scaled:", &a);
     say_flag(b"same as before: ", polynomial::equal(&a, &b));
     arithmetic::clear(&mut b);
@@ -151,7 +152,7 @@ fn say_scaled(c: u32, seed: u32, m: Modulus)
 // Whether p is taken, and if so what is worked out by it.
 fn say_modulus(p: u32) {
     say(b"modulus ", p as u64);
-    say_flag(b" prime ", residues::is_prime(p));
+    say_flag(b" prime ", poly::is_prime(p));
     say_flag(b" accepted ", Modulus::accepts(p));
     end_line();
     if Modulus::accepts(p) {
@@ -162,15 +163,15 @@ fn say_modulus(p: u32) {
 fn say_all(p: u32)
     requires { ⌜ Accepted p ⌝ }
 {
-    let m = Modulus::of(p);
+    let md = Modulus::of(p);
     let top = Residue((p - 1) as u16);
-    say_residues(Residue::ZERO, top, m);
-    say_residues(top, Residue::ONE, m);
-    say_residues(top, top, m);
-    say_multiple(1, 0, 5, m);
-    say_multiple(65535, 64, 77, m);
-    say_product(40000, m);
-    say_scaled(12345, 1, m);
+    say_residues(Residue::ZERO, top, md);
+    say_residues(top, Residue::ONE, md);
+    say_residues(top, top, md);
+    say_multiple(1, 0, 5, md);
+    say_multiple(65535, 64, 77, md);
+    say_product(40000, md);
+    say_scaled(12345, 1, md);
 }
 
 fn main() {

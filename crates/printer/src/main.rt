@@ -2,12 +2,12 @@
 // refuses.
 use libc::STDIN_FILENO;
 use libc::STDOUT_FILENO;
-use printing::OUTPUT;
+use printer_library::OUTPUT;
 
 fn main() {
     let mut text = [0u8; 32769];
     let size = io::read_full(STDIN_FILENO, &mut text);
     let mut out = [0u8; OUTPUT];
-    let used = printing::print(&text[..size], &mut out);
+    let used = printer_library::print(&text[..size], &mut out);
     io::write_all(STDOUT_FILENO, &out[..used]);
 }

@@ -6,8 +6,10 @@
 //!     is the printer: it answers the text at its standard input;
 //! second fuzz PRINTER COUNT SEED
 //!     compares with the program PRINTER on COUNT texts.
-//! But for `print`, the last line says how many passed and how many failed.
+//! But for `print`, the last line says how many passed and how many failed, and
+//! standard error tells how far a long run has come.
 
+use second::progress::Progress;
 use second::refuse::Service;
 use second::{check, fuzz, printer, refuse, sample};
 use std::io::{self, Read, Write};
@@ -49,13 +51,8 @@ fn counted((passed, failed): (u64, u64)) -> ExitCode {
 }
 
 fn service(name: &str) -> Result<Service, String> {
-    match name {
-        "step" => Ok(Service::SingleStep),
-        "reduce" => Ok(Service::Reduction),
-        "popov" => Ok(Service::PopovForm),
-        "determinant" => Ok(Service::Determinant),
-        _ => Err(USAGE.to_string()),
-    }
+    let found = refuse::SERVICES.into_iter().find(|s| s.name() == name);
+    found.ok_or(USAGE.to_string())
 }
 
 /// Count and seed.
@@ -82,7 +79,15 @@ fn compare_printers(printer: &str, (count, seed): (u64, u64)) -> Result<(u64, u6
 
 #[cfg(feature = "proved")]
 fn compare(service: Service, (count, seed): (u64, u64)) -> Result<(u64, u64), String> {
-    Ok(second::proved::compare(service, count, seed))
+    let tally = second::proved::compare(service, count, seed);
+    println!(
+        "{}: {} samples, {} of them square, {} calls with bad input or next to it",
+        service.name(),
+        tally.samples,
+        tally.square,
+        tally.refusals
+    );
+    Ok((tally.passed, tally.failed))
 }
 
 #[cfg(not(feature = "proved"))]
@@ -119,6 +124,7 @@ fn check_all((count, seed): (u64, u64)) -> (u64, u64) {
             );
         }
     }
+    let progress = Progress::new("check", count);
     for number in 0..count {
         let sample = sample::sample(seed, number);
         let label = format!("sample {number} of seed {seed}, {:?}", sample.kind);
@@ -128,6 +134,7 @@ fn check_all((count, seed): (u64, u64)) -> (u64, u64) {
             format!("pair {number} of seed {seed}"),
             check::check_pair(&pair),
         );
+        progress.step();
     }
     (passed, failed)
 }

@@ -4,7 +4,7 @@ use mathlib.Core.Path.{sym, subst}
 use Prim.Native.Nat.{_<_}
 use native.Mathlib.Nat.{mod-lt}
 use Rattle.poly.specs.Polynomial.{Coefficients}
-use Rattle.arithmetic.proofs.Asked.{scaled-coefficients}
+use Rattle.poly.proofs.arithmetic.Asked.{scaled-coefficients}
 use Rattle.poly_bench.proofs.add_reduced.Statement.{statement}
 use Rattle.poly_bench.proofs.add_reduced.Tie as tie
 
@@ -23,7 +23,7 @@ add-rounds-requires c κs =
     let target : tie.After-scale = search needs in
     let factor = target .before .before in
     let start = factor .before .before .before in
-    let some : 0 < start .args .m .p = omega (arith, start .pre .0 .range .two) in (
+    let some : 0 < start .args .md .p = omega (arith, start .pre .0 .range .two) in (
       (start .pre .0, omega (arith, factor .of .ensures, mod-lt (start .args .c) some)),
       (
         subst (Coefficients _) (sym (target .scale .ensures)) (scaled-coefficients _ _ _ some),

@@ -4,18 +4,18 @@ use mathlib.Core.Path.{_≡_, refl, sym, _∙_}
 use Prim.Native.Nat.{_≤_, _-_}
 use lib.ListN.{length}
 use Rattle.poly.specs.Polynomial.{Coefficients}
-use Rattle.arithmetic.specs.Operations.{plusMultiple}
-use Rattle.arithmetic.proofs.Asked.{sum-coefficients, with-room}
+use Rattle.poly.specs.arithmetic.Operations.{plusMultiple}
+use Rattle.poly.proofs.arithmetic.Asked.{sum-coefficients, with-room}
 use Rattle.poly_bench.specs.Rounds.{repeated}
 use Rattle.poly_bench.proofs.Repeat.{repeated-none, repeated-more, repeated-all}
 use Rattle.poly_bench.proofs.add_rounds.Statement.{statement}
 use Rattle.poly_bench.proofs.add_rounds.Tie as tie
 
 abbrev Inv-loop : tie.InvT-loop
-Inv-loop a₀ b c e m rounds i₀ a i = (i ≤ rounds) × (length a ≡ length a₀) × Coefficients (m .p) a × (a ≡ repeated i (plusMultiple (m .p) (c .0) e b) a₀)
+Inv-loop a₀ b c e md rounds i₀ a i = (i ≤ rounds) × (length a ≡ length a₀) × Coefficients (md .p) a × (a ≡ repeated i (plusMultiple (md .p) (c .0) e b) a₀)
 
 abbrev μ-loop : tie.MeasureT-loop
-μ-loop a₀ b c e m rounds i₀ a i = rounds - i
+μ-loop a₀ b c e md rounds i₀ a i = rounds - i
 
 loop-holds : tie.Need-loop-holds Inv-loop μ-loop
 loop-holds c = (omega arith, refl, c .before .before .pre .1 .0, sym (repeated-none _ _))

@@ -1,11 +1,11 @@
 use native.Mathlib.Omega.{arith}
 use borrow.Author.Needs.{needs}
 use borrow.Author.Tests.{not-true, not-false}
-use Rattle.algebra.proofs.Flag.{denied}
+use Rattle.theory_algebra.proofs.Flag.{denied}
 use Rattle.poly_bench.proofs.Answers.{product-refused, product-done}
-use Rattle.residues.specs.Modulus.{Accepted}
-use Rattle.residues.proofs.Range.{in-range}
-use Rattle.arithmetic.proofs.Asked.{product-room}
+use Rattle.poly.specs.residues.Modulus.{Accepted}
+use Rattle.poly.proofs.residues.Range.{in-range}
+use Rattle.poly.proofs.arithmetic.Asked.{product-room}
 use Rattle.poly_bench.proofs.poly_bench_product.Statement.{statement}
 use Rattle.poly_bench.proofs.poly_bench_product.Tie as tie
 

@@ -3,17 +3,17 @@ use native.Mathlib.Omega.{arith}
 use mathlib.Core.Path.{_≡_, refl, sym, _∙_}
 use Prim.Native.Nat.{_≤_, _-_}
 use lib.ListN.{length}
-use Rattle.arithmetic.specs.Operations.{productOf}
+use Rattle.poly.specs.arithmetic.Operations.{productOf}
 use Rattle.poly_bench.specs.Rounds.{repeated}
 use Rattle.poly_bench.proofs.Repeat.{repeated-none, repeated-more, repeated-all}
 use Rattle.poly_bench.proofs.product_rounds.Statement.{statement}
 use Rattle.poly_bench.proofs.product_rounds.Tie as tie
 
 abbrev Inv-loop : tie.InvT-loop
-Inv-loop a b out₀ m rounds i₀ out i = (i ≤ rounds) × (length out ≡ length out₀) × (out ≡ repeated i (productOf (m .p) a b) out₀)
+Inv-loop a b out₀ md rounds i₀ out i = (i ≤ rounds) × (length out ≡ length out₀) × (out ≡ repeated i (productOf (md .p) a b) out₀)
 
 abbrev μ-loop : tie.MeasureT-loop
-μ-loop a b out₀ m rounds i₀ out i = rounds - i
+μ-loop a b out₀ md rounds i₀ out i = rounds - i
 
 loop-holds : tie.Need-loop-holds Inv-loop μ-loop
 loop-holds c = (omega arith, refl, sym (repeated-none _ _))

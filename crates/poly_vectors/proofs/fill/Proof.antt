@@ -1,6 +1,6 @@
 use native.Mathlib.Omega.{arith}
 use borrow.Author.Needs.{needs}
-use Rattle.arithmetic.proofs.Asked.{scaled-coefficients}
+use Rattle.poly.proofs.arithmetic.Asked.{scaled-coefficients}
 use Rattle.poly_vectors.proofs.fill.Statement.{statement}
 use Rattle.poly_vectors.proofs.fill.Tie as tie
 

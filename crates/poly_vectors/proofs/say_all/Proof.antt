@@ -1,6 +1,6 @@
 use native.Mathlib.Omega.{arith}
 use borrow.Author.Needs.{needs}
-use Rattle.algebra.specs.Prime.{Prime}
+use Rattle.theory_algebra.specs.Prime.{Prime}
 use Rattle.poly_vectors.proofs.say_all.Statement.{statement}
 use Rattle.poly_vectors.proofs.say_all.Tie as tie
 

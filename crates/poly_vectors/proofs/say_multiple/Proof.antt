@@ -2,7 +2,7 @@ use native.Mathlib.Omega.{arith}
 use borrow.Author.Needs.{needs}
 use Prim.Native.Nat.{_<_}
 use native.Mathlib.Nat.{mod-lt}
-use Rattle.arithmetic.proofs.Asked.{with-room}
+use Rattle.poly.proofs.arithmetic.Asked.{with-room}
 use Rattle.poly_vectors.proofs.say_multiple.Statement.{statement}
 use Rattle.poly_vectors.proofs.say_multiple.Tie as tie
 
@@ -35,7 +35,7 @@ add-multiple-requires c κs =
     let source : tie.After-fill2 = search needs in
     let target = source .before .before .before in
     let start = target .before .before in
-    let small : c .before .before .of .result .0 < start .args .m .p = rw (c .before .before .of .ensures) (mod-lt _ (omega arith)) in
+    let small : c .before .before .of .result .0 < start .args .md .p = rw (c .before .before .of .ensures) (mod-lt _ (omega arith)) in
     with-room _ _ _ _ _ _ (start .pre .0) small (target .fill .ensures) (source .fill2 .ensures) (omega (arith, target .fill .kept .0, source .fill2 .kept .0))
 
 slice-aggregate-say : tie.Need-slice-aggregate-say

@@ -1,6 +1,6 @@
 use native.Mathlib.Omega.{arith}
 use borrow.Author.Needs.{needs}
-use Rattle.arithmetic.proofs.Asked.{product-room}
+use Rattle.poly.proofs.arithmetic.Asked.{product-room}
 use Rattle.poly_vectors.proofs.say_product.Statement.{statement}
 use Rattle.poly_vectors.proofs.say_product.Tie as tie
 

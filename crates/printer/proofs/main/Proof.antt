@@ -2,7 +2,7 @@ use mathlib.Core.Path.{sym}
 use native.Mathlib.Omega.{arith}
 use borrow.Author.Needs.{needs}
 use lib.Seq.{length-take-le}
-use Rattle.writing.proofs.Writing.{wrote-length}
+use Rattle.printer_writing.proofs.Writing.{wrote-length}
 use Rattle.printer.proofs.main.Statement.{statement}
 use Rattle.printer.proofs.main.Tie as tie
 

@@ -1,5 +1,5 @@
 use native.Mathlib.Omega.{arith}
-use Rattle.residues.proofs.Range.{in-range}
+use Rattle.poly.proofs.residues.Range.{in-range}
 use Rattle.matrix.proofs.PopovService.{reduction-done, order, finish-asked, popov-refused, popov-answered}
 use borrow.Author.Needs.{needs}
 use Rattle.matrix.proofs.popov_form.form.Statement.{statement}

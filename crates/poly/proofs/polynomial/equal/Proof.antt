@@ -3,7 +3,7 @@ use borrow.Author.Needs.{needs}
 use native.Mathlib.Omega.{arith}
 use mathlib.Core.Path.{sym, _∙_}
 use Prim.Native.Nat.{_-_}
-use Rattle.algebra.proofs.Flag.{says-yes, says-no}
+use Rattle.theory_algebra.proofs.Flag.{says-yes, says-no}
 use Rattle.poly.proofs.Ending.{same-height, Comparing, comparing-end}
 use Rattle.poly.proofs.polynomial.equal.Statement.{statement}
 use Rattle.poly.proofs.polynomial.equal.Tie as tie

@@ -1,3 +1,0 @@
-pub mod Bits
-pub mod Choice
-pub mod Next

@@ -1,2 +1,0 @@
-pub mod Columns
-pub mod Pair

@@ -1,2 +1,0 @@
-mod Followed
-pub mod Reducing

@@ -1,4 +1,0 @@
-pub mod Number
-pub mod Line
-pub mod File
-pub mod Answer

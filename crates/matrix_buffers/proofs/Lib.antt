@@ -1,0 +1,9 @@
+pub mod Place
+pub mod Held
+pub mod Written
+pub mod Added
+pub mod Scaled
+pub mod Exchanged
+pub mod Diagonal
+pub mod Bounds
+pub mod CellByCell

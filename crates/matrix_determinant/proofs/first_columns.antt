@@ -1,0 +1,2 @@
+mod StageStep
+pub mod StageColumns

@@ -1,0 +1,98 @@
+use borrow.Author.Needs.{needs}
+use native.Mathlib.Nat.{add-sub-cancel-left}
+use native.Mathlib.Omega.{arith}
+use mathlib.Core.Path.{sym}
+use Prim.Native.Nat.{_+_, _*_, _≤_}
+use denote.Ref.{now}
+use lib.ListN.{length}
+use lib.Seq.{length-take-le}
+use Rattle.matrix_determinant.proofs.TakingOut.{entry-fits, cells-fit, left-asked, taken-out}
+use Rattle.matrix_determinant.proofs.zero_row.take_out.Statement.{statement}
+use Rattle.matrix_determinant.proofs.zero_row.take_out.Tie as tie
+
+-- the row that is found lies in the column
+fits : (c : tie.After-lowest-zero) → let start : tie.Start = search needs in let args = start .args in
+    c .lowest-zero .result .k * args .wide + args .wide ≤ length (now (args .column))
+fits c = let start : tie.Start = search needs in entry-fits (start .pre) (c .lowest-zero .ensures .lowest)
+
+lowest-zero-requires : tie.Need-lowest-zero-requires
+lowest-zero-requires c κs = search needs
+
+mul-at : tie.Need-mul-at
+mul-at c = omega (arith, fits (c .before))
+
+add-end : tie.Need-add-end
+add-end c = omega (arith, fits (c .before))
+
+mul-multiply : tie.Need-mul-multiply
+mul-multiply c = omega (arith, fits (c .before .before .before))
+
+sub-multiply : tie.Need-sub-multiply
+sub-multiply c = search needs
+
+part-multiply-start : tie.Need-part-multiply-start
+part-multiply-start c = search needs
+
+part-multiply-end : tie.Need-part-multiply-end
+part-multiply-end c = fits (search needs)
+
+multiply-requires : tie.Need-multiply-requires
+multiply-requires c κs =
+    let start : tie.Start = search needs in
+    let found : tie.After-lowest-zero = search needs in
+    rw add-sub-cancel-left (start .pre .row _ (found .lowest-zero .ensures .lowest) .1)
+
+mul-cells : tie.Need-mul-cells
+mul-cells c = search needs
+
+slice-relend-prefix-part : tie.Need-slice-relend-prefix-part
+slice-relend-prefix-part c = search needs
+
+slice-aggregate-part : tie.Need-slice-aggregate-part
+slice-aggregate-part c = sym (length-take-le _ _ (search (needs, cells-fit)))
+
+part-requires : tie.Need-part-requires
+part-requires c κs = search (needs, left-asked)
+
+same-length : tie.Need-same-length
+same-length c = search needs
+
+same-length-2 : tie.Need-same-length-2
+same-length-2 c = search needs
+
+same-length-3 : tie.Need-same-length-3
+same-length-3 c = search needs
+
+same-length-4 : tie.Need-same-length-4
+same-length-4 c = search needs
+
+returns : tie.Need-returns
+returns c =
+    let parted : tie.After-part = search needs in
+    let multiplied : tie.After-multiply = search needs in
+    let found : tie.After-lowest-zero = search needs in
+    let start : tie.Start = search multiplied in
+    taken-out (start .pre) (found .lowest-zero .ensures .lowest) _ (parted .part .ensures)
+    (rw (add-sub-cancel-left, found .lowest-zero .ensures .sign-is) at (multiplied .multiply .ensures))
+
+pub take-out-spec : {M : Type 1} → statement M
+take-out-spec =
+    tie.close
+    (tie.spec
+    lowest-zero-requires
+    mul-at
+    add-end
+    mul-multiply
+    sub-multiply
+    part-multiply-start
+    part-multiply-end
+    multiply-requires
+    mul-cells
+    slice-relend-prefix-part
+    slice-aggregate-part
+    part-requires
+    same-length
+    same-length-2
+    same-length-3
+    same-length-4
+    returns)

@@ -1,0 +1,2 @@
+pub mod StageStep
+pub mod StageColumns

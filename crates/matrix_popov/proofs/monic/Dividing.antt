@@ -1,0 +1,202 @@
+-- Rows that are divided one after another: what the buffers hold when some of them are, and what is asked of the next.
+use mathlib.Core.Path.{_≡_, refl, sym, _∙_, ap, subst}
+use mathlib.Core.List.{List}
+use Prim.Native.Nat.{ℕ, zero, suc, _+_, _-_, _*_, _%_, _≤_, _<_}
+use native.Mathlib.Decide.{ℕ-discrete}
+use native.Mathlib.Omega.{arith}
+use lib.ListN.{length, getD}
+use Rattle.theory_algebra.specs.Ring.{CommRing}
+use Rattle.theory_algebra.specs.Field.{Field}
+use Rattle.theory_algebra.specs.Matrix.{Mat, transpose, scalerow, dilate}
+use Rattle.theory_algebra.specs.Prime.{Prime}
+use Rattle.theory_algebra.specs.Residue.{Zp}
+use Rattle.theory_algebra.specs.Series.{const}
+use Rattle.theory_algebra.proofs.Ring as Ring
+use Rattle.theory_algebra.proofs.Matrix.{setrow-same, setrow-other}
+use Rattle.theory_algebra.proofs.PrimeField.{zp-field, field-mul, field-one}
+use Rattle.theory_algebra.proofs.Residue.{zp-path}
+use Rattle.theory_algebra.proofs.Series.{series}
+use Rattle.matrix_buffers.specs.Held.{matrixOf}
+use Rattle.matrix_buffers.specs.Scaled.{RowScaled, ColumnScaled}
+use Rattle.matrix_buffers.proofs.Place.{by-rows}
+use Rattle.matrix_buffers.proofs.Held.{held-bounded, held-matrixOf, held-matrix-same}
+use Rattle.matrix_buffers.proofs.Scaled.{held-row-scaled, held-column-scaled}
+use Rattle.theory_reduction.specs.Pivot.{index}
+use Rattle.theory_reduction.specs.Step.{Carried, leading}
+use Rattle.theory_reduction.proofs.Index.{value-is}
+use Rattle.theory_popov.specs.Scaled.{where-some, divisor, inverse, scaled}
+use Rattle.theory_popov.proofs.Scaling.{inverse-is}
+use Rattle.matrix_pivots.specs.Pivot.{valuesOf}
+use Rattle.matrix_reduction.specs.multiple.Asked.{PivotAsked}
+use Rattle.matrix_reduction.specs.multiple.Factor.{leadingAt}
+use Rattle.matrix_reduction.specs.first_step.Holding.{Holding}
+use Rattle.matrix_reduction.specs.first_step.Asked.{Matrices}
+use Rattle.matrix_reduction.proofs.first_step.Moving.{leading-is}
+use Rattle.matrix_reduction.proofs.first_step.RowsOf.{pivot-asked}
+use Rattle.matrix_reduction.proofs.first_step.Short.{holding-matrices}
+use Rattle.matrix_reduction.proofs.first_step.Value.{value-held}
+use Rattle.matrix_popov.specs.monic.Monic.{RowToDivide, whereSome, RowDivided, MonicAsked, MadeMonic}
+
+module _ {F : Type 0} (R : CommRing F) where
+  -- an element has one inverse
+  inverse-unique : (a b c : F) → R .mul a b ≡ R .𝟙 → R .mul b c ≡ R .𝟙 → a ≡ c
+  inverse-unique a b c e g =
+      sym (Ring.mul-one R a) ∙ ap (R .mul a) (sym g) ∙ sym (Ring.mul-assoc R a b c) ∙ ap (λ x. R .mul x c) e ∙ Ring.one-mul R c
+
+  module _ (u : ℕ → F) (A : Mat F) where
+    -- the first i rows of A are multiplied by u
+    abbrev pub dilate-first : ℕ → Mat F
+    dilate-first zero = A
+    dilate-first (suc i) = scalerow R (dilate-first i) i (u i)
+
+    rest-kept : (i j : ℕ) → i ≤ j → dilate-first i j ≡ A j
+    rest-kept zero j l = refl
+    rest-kept (suc i) j l = setrow-other _ i _ j (λ e. omega arith) ∙ rest-kept i j (omega arith)
+
+    first-dilated : (i j c : ℕ) → j < i → dilate-first i j c ≡ dilate R u A j c
+    first-dilated zero j c l = absurd (omega arith)
+    first-dilated (suc i) j c l = elim (ℕ-discrete j i) [
+      | yes e ↦ rw e (ap (λ f. f c) (setrow-same (dilate-first i) i _) ∙ ap (λ f. R .mul (u i) (f c)) (rest-kept i i (omega arith)))
+      | no ne ↦ ap (λ f. f c) (setrow-other (dilate-first i) i _ j ne) ∙ first-dilated i j c (omega arith)
+    ]
+
+module _ {F : Type 0} (K : Field F) (m w : ℕ) (t : Carried F) where
+  abbrev S : CommRing (ℕ → F)
+  S = series (K .ring)
+
+  abbrev inverses : ℕ → ℕ → F
+  inverses i = const (K .ring) (inverse K m w (t .R i))
+
+  abbrev divisors : ℕ → ℕ → F
+  divisors i = const (K .ring) (divisor K m w (t .R i))
+
+  -- the first i rows of R and U are divided, and the first i columns of V are multiplied
+  abbrev pub partly : ℕ → Carried F
+  partly i = record {
+    R = dilate-first S inverses (t .R) i;
+    U = dilate-first S inverses (t .U) i;
+    V′ = transpose (dilate-first S divisors (transpose (t .V′)) i);
+  }
+
+  row-kept : (i : ℕ) → partly i .R i ≡ t .R i
+  row-kept i = rest-kept S inverses (t .R) i i (omega arith)
+
+-- all of them
+held-all : {p n m w : ℕ} {r u v : List ℕ} (P : Prime p) (t : Carried (Zp p))
+    → Holding p n m w r u v (partly (zp-field p P) m w t n) → Holding p n m w r u v (scaled (zp-field p P) m w t)
+held-all {p} {n} {m} {w} P t h = let K = zp-field p P in record {
+  R = held-matrix-same (by-rows n m w) p (λ i j li _. first-dilated (S K m w t) (inverses K m w t) (t .R) n i j li) (h .R);
+  U = held-matrix-same (by-rows n n (n * w)) p (λ i j li _. first-dilated (S K m w t) (inverses K m w t) (t .U) n i j li) (h .U);
+  V′ = held-matrix-same (by-rows n n w) p (λ i j _ lj. first-dilated (S K m w t) (divisors K m w t) (transpose (t .V′)) n j i lj) (h .V′);
+}
+
+-- at the loop's head
+pub record Dividing (p n m w : ℕ) (r₀ u₀ v₀ r u v : List ℕ) (i : ℕ) : Type 0 where
+  pub most : i ≤ n
+  pub held : (P : Prime p) (t : Carried (Zp p)) → Holding p n m w r₀ u₀ v₀ t → Holding p n m w r u v (partly (zp-field p P) m w t i)
+
+-- the number of what a row is divided by, from its pivot index
+number-is : (p : ℕ) (P : Prime p) (m w v : ℕ) (a : Zp p) (x : ℕ) → (0 < v → a .val ≡ x)
+    → where-some (zp-field p P) m w v a .val ≡ whereSome (index m v) x
+unfolding index
+number-is p P m w zero a x h = field-one p P
+number-is p P m w (suc v) a x h = h (omega arith)
+
+module _ {p reciprocal n m w : ℕ} {r₀ u₀ v₀ indices degrees : List ℕ} (asked : MonicAsked p reciprocal n m w r₀ u₀ v₀ indices degrees) where
+  open MonicAsked asked using (ready, prime, matrices, columns, lists)
+  open Matrices matrices using (sizes, r-residues, u-residues, v-residues)
+
+  -- there are matrices that the buffers hold at entry
+  some : 0 < p
+  some = omega (arith, prime .two)
+
+  entry : Carried (Zp p)
+  entry = record {
+    R = matrixOf (by-rows n m w) p some r₀;
+    U = matrixOf (by-rows n n (n * w)) p some u₀;
+    V′ = matrixOf (by-rows n n w) p some v₀;
+  }
+
+  entry-held : Holding p n m w r₀ u₀ v₀ entry
+  unfolding entry
+  entry-held = record {
+    R = held-matrixOf (by-rows n m w) p some r₀ (sizes .r-size) r-residues;
+    U = held-matrixOf (by-rows n n (n * w)) p some u₀ (sizes .u-size) u-residues;
+    V′ = held-matrixOf (by-rows n n w) p some v₀ (sizes .v-size) v-residues;
+  }
+
+  pub dividing-start : Dividing p n m w r₀ u₀ v₀ r₀ u₀ v₀ 0
+  dividing-start = record { most = omega arith; held = λ P t h. h }
+
+  pub dividing-all : {r u v : List ℕ} → Dividing p n m w r₀ u₀ v₀ r u v n → MadeMonic p n m w r₀ u₀ v₀ r u v
+  dividing-all inv = record { by = λ P t h. held-all P t (inv .held P t h) }
+
+  module _ {r u v : List ℕ} {i : ℕ} (inv : Dividing p n m w r₀ u₀ v₀ r u v i) where
+    here : Holding p n m w r u v (partly (zp-field p prime) m w entry i)
+    here = inv .held prime entry entry-held
+
+    pub lengths : (length r ≡ length r₀) × (length u ≡ length u₀) × (length v ≡ length v₀)
+    lengths = (here .R .size ∙ sym (sizes .r-size), here .U .size ∙ sym (sizes .u-size), here .V′ .size ∙ sym (sizes .v-size))
+
+    module _ (li : i < n) where
+      -- the leading coefficient of row i is as it was
+      leading-kept : PivotAsked m w i r₀ indices degrees → leadingAt m w r indices degrees i ≡ leadingAt m w r₀ indices degrees i
+      leading-kept x =
+          let col : getD indices i 0 - 1 < m = omega (arith, x .leading .column, x .leading .column-most) in
+          let deg : getD degrees i 0 - 1 < w = omega (arith, x .leading .height, x .leading .height-most) in
+          here .R .at i _ _ li col deg
+          ∙ ap (λ row. row (getD indices i 0 - 1) (getD degrees i 0 - 1) .val) (row-kept (zp-field p prime) m w entry i)
+          ∙ sym (entry-held .R .at i _ _ li col deg)
+
+      pivot-there : 0 < valuesOf m w r₀ i → PivotAsked m w i r₀ indices degrees
+      pivot-there l = pivot-asked n m w columns r₀ (sizes .r-size) lists i li l
+
+      pub row-asked : RowToDivide p reciprocal n m w i (getD indices i 0) (getD degrees i 0) r u v
+      row-asked = record {
+        ready = ready;
+        prime = prime;
+        matrices = holding-matrices here;
+        fits = li;
+        leading = λ l. let x = there l .leading in record {
+          row = omega (arith, lengths, x .row);
+          column = x .column;
+          column-most = x .column-most;
+          height = x .height;
+          height-most = x .height-most;
+        };
+        nonzero = λ l. rw (leading-kept (there l)) (there l .nonzero);
+      }
+        where
+          there : 0 < getD indices i 0 → PivotAsked m w i r₀ indices degrees
+          there l = pivot-there (omega (arith, lists .pivots .row i li .index-is, value-is m (valuesOf m w r₀ i)))
+
+      module _ {r′ u′ v′ : List ℕ} (d : RowDivided p n m w i (getD indices i 0) (getD degrees i 0) r u v r′ u′ v′) where
+        module _ (P : Prime p) (t : Carried (Zp p)) (h : Holding p n m w r₀ u₀ v₀ t) where
+          abbrev K : Field (Zp p)
+          K = zp-field p P
+
+          divisor-number : divisor K m w (t .R i) .val ≡ d .c
+          divisor-number =
+              number-is p P m w _ (leading K m w (t .R i)) (leadingAt m w r indices degrees i) (λ l.
+              leading-is p P n m w columns r₀ indices degrees (t .R) (h .R) (lists .pivots) i li l
+              ∙ sym (leading-kept (pivot-there (omega (arith, value-held p P n m w (h .R) columns i li)))))
+              ∙ ap (λ (x : ℕ). whereSome x (leadingAt m w r indices degrees i))
+              (sym (lists .pivots .row i li .index-is ∙ ap (index m) (sym (value-held p P n m w (h .R) columns i li))))
+              ∙ sym (d .c-is)
+
+          inverse-number : inverse K m w (t .R i) .val ≡ d .f
+          inverse-number =
+              let f : Zp p = record { val = d .f; lt = d .inverse .below } in
+              ap (λ (x : Zp p). x .val) (inverse-unique (K .ring) _ (divisor K m w (t .R i)) f
+              (inverse-is K m w (t .R i) (held-bounded (by-rows n m w) p P (h .R) i li))
+              (zp-path _ _ (field-mul p P _ f ∙ ap (λ (x : ℕ). x * d .f % p) divisor-number ∙ d .inverse .one ∙ sym (field-one p P))))
+
+          next-held : Holding p n m w r′ u′ v′ (partly K m w t (suc i))
+          next-held = let held = inv .held P t h in record {
+            R = held-row-scaled p P n m w _ i li (held .R) (subst (λ (f : ℕ). RowScaled p m w f i r r′) (sym inverse-number) (d .r-divided));
+            U = held-row-scaled p P n n (n * w) _ i li (held .U) (subst (λ (f : ℕ). RowScaled p n (n * w) f i u u′) (sym inverse-number) (d .u-divided));
+            V′ = held-column-scaled p P n w _ i li (held .V′) (subst (λ (c : ℕ). ColumnScaled p n w c i v v′) (sym divisor-number) (d .v-multiplied));
+          }
+
+        pub dividing-on : Dividing p n m w r₀ u₀ v₀ r′ u′ v′ (i + 1)
+        dividing-on = let next : i + 1 ≡ suc i = omega arith in rw next (record { most = omega arith; held = next-held })

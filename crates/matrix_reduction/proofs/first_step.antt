@@ -1,0 +1,5 @@
+pub mod Value
+pub mod Moving
+pub mod Short
+pub mod LinesAsked
+pub mod RowsOf

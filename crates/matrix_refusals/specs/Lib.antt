@@ -1,0 +1,4 @@
+pub mod Number
+pub mod Answering
+pub mod Refused
+pub mod checks

@@ -1,0 +1,3 @@
+pub mod Asked
+pub mod exchange
+pub mod scale

@@ -1,4 +1,0 @@
-pub mod Signed
-pub mod Parting
-mod Laying
-mod TakingOut

@@ -1,4 +1,0 @@
-pub mod Signed
-pub mod Parting
-pub mod Lay
-pub mod TakingOut

@@ -1,0 +1,66 @@
+use borrow.Author.Needs.{needs}
+use native.Mathlib.Omega.{arith}
+use Prim.Native.Nat.{_*_, _-_, _%_}
+use lib.ListN.{length}
+use Rattle.theory_lists.proofs.Change.{Changing, changing-start, changing-turn, changing-end}
+use Rattle.poly.specs.arithmetic.Operations.{scaledBy}
+use Rattle.poly.proofs.arithmetic.scale.Statement.{statement}
+use Rattle.poly.proofs.arithmetic.scale.Tie as tie
+
+abbrev Inv-loop : tie.InvT-loop
+Inv-loop a₀ c md i₀ a i = Changing (λ j x. c .0 * x % md .p) a₀ a i
+
+abbrev μ-loop : tie.MeasureT-loop
+μ-loop a₀ c md i₀ a i = length a₀ - i
+
+loop-holds : tie.Need-loop-holds Inv-loop μ-loop
+loop-holds c = changing-start _ _
+
+mul-t5 : tie.Need-mul-t5 Inv-loop μ-loop
+mul-t5 c = omega arith
+
+slice-read-t9 : tie.Need-slice-read-t9 Inv-loop μ-loop
+slice-read-t9 c = omega arith
+
+product-requires : tie.Need-product-requires Inv-loop μ-loop
+product-requires c κs = search needs
+
+mul-a : tie.Need-mul-a Inv-loop μ-loop
+mul-a c = omega arith
+
+slice-write-a : tie.Need-slice-write-a Inv-loop μ-loop
+slice-write-a c = omega arith
+
+add-i : tie.Need-add-i Inv-loop μ-loop
+add-i c = omega arith
+
+loop-less : tie.Need-loop-less Inv-loop μ-loop
+loop-less c = omega arith
+
+loop-again : tie.Need-loop-again Inv-loop μ-loop
+loop-again c = changing-turn _ _ _ _ (c .before .before .before .loop .inv) _ (omega arith) (c .product .ensures)
+
+same-length : tie.Need-same-length Inv-loop μ-loop
+same-length c = search needs
+
+returns : tie.Need-returns Inv-loop μ-loop
+unfolding scaledBy
+returns c = changing-end _ _ _ _ (c .before .loop .inv) (omega arith)
+
+pub scale-spec : {M : Type 1} → statement M
+scale-spec =
+    tie.close
+    (tie.spec
+    Inv-loop
+    μ-loop
+    loop-holds
+    mul-t5
+    slice-read-t9
+    product-requires
+    mul-a
+    slice-write-a
+    add-i
+    loop-less
+    loop-again
+    same-length
+    returns)

@@ -1,3 +1,0 @@
-pub mod Number
-pub mod Answering
-pub mod Refused

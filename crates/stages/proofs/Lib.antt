@@ -1,4 +1,0 @@
-mod Turning
-mod Fronts
-mod Beginning
-mod Whole

@@ -1,3 +1,0 @@
-pub mod Stage
-pub mod Run
-pub mod Determinant

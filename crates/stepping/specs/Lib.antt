@@ -1,3 +1,0 @@
-pub mod Holding
-pub mod Move
-pub mod Asked
