@@ -1,6 +1,6 @@
 /* The proved reduction, Popov form and determinant beside plain C of the same method, in one run.
  *
- * matrix figures  prints a line of figures for each input and service: see HEAD
+ * matrix figures  prints a line of figures for each input and service: see HEAD; says on standard error how far it is
  * matrix cells KIND P N D  prints the coefficients of an input, for other programs to time
  * matrix compare  only compares result, U, V and the counts of steps; prints 'N passed, M failed'
  */
@@ -20,6 +20,7 @@ static const char *const names[KINDS] = {"random", "column", "half rank", "trian
 /* The inputs of the table, of every kind, and those that show the growth, which are random: with n at the greatest
  * degree, and with the degree at the greatest n. */
 enum { MODULI = 2, SIZES = 3, DEGREES = 2, GROWING = 6 };
+enum { INPUTS = KINDS * MODULI * SIZES * DEGREES + MOST + GROWING };
 static const uint32_t moduli[MODULI] = {65521, 929};
 static const unsigned sizes[SIZES] = {2, 4, 8};
 static const unsigned degrees[DEGREES] = {15, 63};
@@ -241,10 +242,10 @@ static void print_times(const struct service *service, const struct input *in)
 
 #define HEAD "series,service,input,p,n,d,first,second,proved,C\n"
 
-/* Whether figures are to be printed, and how many comparisons agreed and how many did not. */
+/* Whether figures are to be printed, how many inputs there were, and how many comparisons agreed and how many did not. */
 struct results {
     bool figures;
-    int passed, failed;
+    int inputs, passed, failed;
 };
 
 /* All services for one input, of the table or of a series that shows the growth. */
@@ -256,6 +257,9 @@ static void input(struct results *results, const char *series, enum kind kind, u
     in.n = n;
     in.d = d;
     fill(&in);
+    results->inputs++;
+    if (results->figures)
+        fprintf(stderr, "figures: matrix %d of %d, %s p=%u n=%u d=%u\n", results->inputs, INPUTS, names[kind], p, n, d);
     for (int i = 0; i < SERVICES; i++) {
         const bool agrees = same(&services[i], &in);
         agrees ? results->passed++ : results->failed++;

@@ -1,6 +1,7 @@
 /* The row operation and the product of `arithmetic` beside plain C of the same method, in one run.
  *
- * poly figures  prints a line of figures for each input: nanoseconds per place (row) or per pair of places (product)
+ * poly figures  prints a line of figures for each input: nanoseconds per place (row) or per pair of places (product);
+ *               says on standard error how far it is
  * poly compare  only compares results on mixed inputs; prints 'N passed, M failed'
  */
 #include <stdbool.h>
@@ -14,9 +15,9 @@ bool poly_bench_add(uint16_t *a, size_t a_len, uint16_t *b, size_t b_len, uint32
 bool poly_bench_product(const uint16_t *a, size_t a_len, const uint16_t *b, size_t b_len, uint16_t *out, size_t out_len,
                         uint32_t p, uint32_t rounds);
 
-enum { MOST = 1024 };
-static const uint32_t moduli[] = {2, 3, 929, 65521};
-static const size_t lengths[] = {1, 2, 16, 64, 512};
+enum { MOST = 1024, MODULI = 4, LENGTHS = 5 };
+static const uint32_t moduli[MODULI] = {2, 3, 929, 65521};
+static const size_t lengths[LENGTHS] = {1, 2, 16, 64, 512};
 
 __attribute__((noinline)) static void plain_add(uint16_t *a, const uint16_t *b, size_t n, uint32_t c, size_t e, uint32_t p)
 {
@@ -109,10 +110,13 @@ int main(int argc, char **argv)
         printf("operation,p,places,proved,C\n");
     int passed = 0, failed = 0;
     for (int product = 0; product < 2; product++)
-        for (size_t i = 0; i < sizeof moduli / sizeof *moduli; i++)
-            for (size_t j = 0; j < sizeof lengths / sizeof *lengths; j++) {
+        for (int i = 0; i < MODULI; i++)
+            for (int j = 0; j < LENGTHS; j++) {
                 size_t n = lengths[j];
                 uint32_t work = (uint32_t)(product ? n * n : n);
+                if (show)
+                    fprintf(stderr, "figures: poly %d of %d, %s p=%u n=%zu\n", passed + failed + 1, 2 * MODULI * LENGTHS,
+                            product ? "product" : "row", moduli[i], n);
                 bool same = row(n, moduli[i], show ? 4000000 / work + 1 : 3, product, show && n >= 16 && moduli[i] > 3);
                 same ? passed++ : failed++;
             }

@@ -30,7 +30,7 @@ class Wrong(NamedTuple):
     @property
     def label(self):
         """How docs/PROMISES.md names it."""
-        return f"{self.function.split('::')[-1]}-{re.sub(r'[^0-9A-Za-z]+', '_', self.what)}"
+        return f"{self.function}: {self.what}"
 
 
 def changed_function(crate, changes):

@@ -54,7 +54,7 @@ pub sized : {determinant : Bool} {p n m d : ℕ} {given wanted a : List ℕ} →
     → (k : ℕ) → getD given k 0 ≡ getD wanted k 0
 sized x k = ap (λ (l : List ℕ). getD l k 0) (x .lengths)
 
--- the number is 0, so no row applies
+-- the number is 0, so no rule applies
 pub past : {A P S : Type 0} {number k : ℕ} → number ≡ 0 → 0 < k → ((¬ A) × (number ≡ k) × P) ⊎ (A × S) → A × S
 past none some (inl f) = absurd (omega (arith, f .1))
 past none some (inr g) = g

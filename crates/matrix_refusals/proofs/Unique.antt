@@ -1,4 +1,4 @@
--- A call has one answer only: the first row of a table that applies is one, and so is what a refusal leaves behind.
+-- A call has one answer only: the first rule of a table that applies is one, and so is what a refusal leaves behind.
 use mathlib.Core.Path.{_≡_, refl, sym, ap, _∙_}
 use mathlib.Core.Bool.{Bool}
 use mathlib.Core.Logic.{inl, inr}
@@ -42,18 +42,18 @@ high-one p a = one _ (λ i j f g lt. g .before i lt (f .here (omega (arith, g .w
 abbrev pub Decides : List Rule → Type 0
 Decides table = (k i l j : ℕ) → Told table k i → Told table l j → (k ≡ l) × (i ≡ j)
 
--- each of its rows allows one place
+-- each of its rules allows one place
 abbrev pub Places : List Rule → Type 0
 Places [] = Unit
-Places ((k, right, at) ∷ rows) = One at × Places rows
+Places ((k, right, at) ∷ rules) = One at × Places rules
 
 -- the first follows from the second
-pub decides : (rows : List Rule) → Places rows → Decides rows
+pub decides : (rules : List Rule) → Places rules → Decides rules
 decides [] ones k i l j f g = (f .0 ∙ sym (g .0), f .1 ∙ sym (g .1))
-decides (row ∷ rows) ones k i l j (inl f) (inl g) = (f .1 ∙ sym (g .1), ones .0 i j (f .2) (g .2))
-decides (row ∷ rows) ones k i l j (inl f) (inr g) = absurd (f .0 (g .0))
-decides (row ∷ rows) ones k i l j (inr f) (inl g) = absurd (g .0 (f .0))
-decides (row ∷ rows) ones k i l j (inr f) (inr g) = decides rows (ones .1) k i l j (f .1) (g .1)
+decides (rule ∷ rules) ones k i l j (inl f) (inl g) = (f .1 ∙ sym (g .1), ones .0 i j (f .2) (g .2))
+decides (rule ∷ rules) ones k i l j (inl f) (inr g) = absurd (f .0 (g .0))
+decides (rule ∷ rules) ones k i l j (inr f) (inl g) = absurd (g .0 (f .0))
+decides (rule ∷ rules) ones k i l j (inr f) (inr g) = decides rules (ones .1) k i l j (f .1) (g .1)
 
 -- the answer that has a number, a place and an outcome: done where the number is 0, else refused
 abbrev answerAt : {Answer Outcome : Type 0} → (Refusal → Answer) → (Outcome → Answer) → ℕ × ℕ × Outcome → Answer

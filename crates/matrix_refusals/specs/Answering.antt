@@ -4,7 +4,7 @@ use mathlib.Core.Logic.{_⊎_}
 use mathlib.Core.List.{List, [], _∷_}
 use Prim.Native.Nat.{ℕ, _<_}
 
--- a row of a refusal table: a number, what has to hold lest it is returned, and which place is returned with it
+-- a rule of a refusal table: a number, what has to hold lest it is returned, and which place is returned with it
 abbrev pub Rule : Type 1
 Rule = ℕ × Type 0 × (ℕ → Type 0)
 
@@ -12,7 +12,7 @@ Rule = ℕ × Type 0 × (ℕ → Type 0)
 -- applies the number is 0 and so is the place.
 abbrev pub Told : (table : List Rule) (number place : ℕ) → Type 0
 Told [] number place = (number ≡ 0) × (place ≡ 0)
-Told ((k, right, at) ∷ rows) number place = ((¬ right) × (number ≡ k) × at place) ⊎ (right × Told rows number place)
+Told ((k, right, at) ∷ rules) number place = ((¬ right) × (number ≡ k) × at place) ⊎ (right × Told rules number place)
 
 -- A call returns a number and a place. Its outcome is what else it returns, and what its buffers hold at exit: that is
 -- `kept` where it is refused, and Done tells what is true of it else.

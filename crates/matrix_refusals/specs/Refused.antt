@@ -61,8 +61,8 @@ FirstHigh p a = First (length a) (λ j. p ≤ getD a j 0)
 abbrev pub Zero : ℕ → Type 0
 Zero place = place ≡ 0
 
--- The rows of the refusal table that speak of p, n, m and d, each with its number, what has to hold lest it is returned, and
--- the place; and then further rows.
+-- The rules of the refusal table that speak of p, n, m and d, each with its number, what has to hold lest it is returned, and
+-- the place; and then further rules.
 abbrev pub numberRules : (p n m d : ℕ) (further : List Rule) → List Rule
 numberRules p n m d further =
     -- "p is not a prime in 2 to 65,521", place 0

@@ -1,4 +1,4 @@
-// Prints what the functions of `poly` and `arithmetic` answer for small and extreme inputs. The file stdout beside this folder
+// Prints what the functions of `poly` answer for small and extreme inputs. The file stdout beside this folder
 // has what they should print; expected.py, which shares no code with them, works it out.
 use libc::STDOUT_FILENO;
 use poly::Degree;

@@ -7,7 +7,7 @@ use Rattle.matrix_refusals.specs.Refused.{Zero, numberRules, coefficientRule}
 use Rattle.printer_format.specs.Line.{Lines}
 use Rattle.printer_format.specs.File.{headLines, numbersOf, restOf, headModulus, headRows, headColumns, headDegree, cellLines, AsSaid, WrongLine}
 
--- the rows for what follows the head, s being that text: the first cell's line is line 5
+-- the rules for what follows the head, s being that text: the first cell's line is line 5
 abbrev pub bodyTable : (p n m d : ℕ) (s : List ℕ) → List Rule
 bodyTable p n m d s = numberRules p n m d (
     (7, AsSaid (cellLines n m d s), WrongLine 5 (cellLines n m d s)) ∷
@@ -15,7 +15,7 @@ bodyTable p n m d s = numberRules p n m d (
     []
     )
 
--- the whole table of a text with `size` bytes and these head lines; where they aren't as said the second row applies, and what
+-- the whole table of a text with `size` bytes and these head lines; where they aren't as said the second rule applies, and what
 -- then stands for p, n, m, d and the rest has no say
 abbrev pub tableBy : (size : ℕ) (head : Lines) → List Rule
 tableBy size head =

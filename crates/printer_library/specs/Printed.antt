@@ -1,6 +1,6 @@
 -- What the printer writes for a text: a relation between the bytes that it reads and the bytes that it writes. Which text is taken is
--- said in crate `format`, files Number, Line and File; how an answer is written, there in Answer; which refusal and place every other
--- text gets, in crate `files`, file Table. That a text has one answer only is `Unique.printed-unique`.
+-- said in `printer_format`, files Number, Line and File; how an answer is written, there in Answer; which refusal and place every other
+-- text gets, in `printer_files`, file Table. That a text has one answer only is `Unique.printed-unique`.
 use mathlib.Core.Path.{_≡_}
 use mathlib.Core.List.{List}
 use Prim.Native.Nat.{ℕ, _+_, _≤_, _<_}
