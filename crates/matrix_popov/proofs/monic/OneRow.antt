@@ -26,11 +26,6 @@ once {p} {at = at} {b = b} two residues = record {
     below : (x : ℕ) → getD b x 0 < p
     below x = case-le (length b) x (λ past. omega (arith, getD-past b x past)) (λ inside. residues .below x inside)
 
--- what a row that is not zero is divided by
-pub divisor-is : (x c lead : ℕ) → 0 < x → c ≡ lead → c ≡ whereSome x lead
-divisor-is zero c lead l e = absurd (omega arith)
-divisor-is (suc x) c lead l e = e
-
 module _ {p reciprocal n m w i x h : ℕ} {r u v : List ℕ} (asked : RowToDivide p reciprocal n m w i x h r u v) where
   open RowToDivide asked using (ready, prime, matrices)
   open Matrices matrices using (sizes, r-residues, u-residues, v-residues)
@@ -45,6 +40,14 @@ module _ {p reciprocal n m w i x h : ℕ} {r u v : List ℕ} (asked : RowToDivid
     u-divided = once (prime .two) u-residues;
     v-multiplied = once (prime .two) v-residues;
   }
+
+  -- what a row that is not zero is divided by
+  pub divisor-is : {c : ℕ} → 0 < x → c ≡ getD r (spot m w i (x - 1) (h - 1)) 0 → c ≡ whereSome x (getD r (spot m w i (x - 1) (h - 1)) 0)
+  divisor-is some is = is ∙ chosen x _ some
+    where
+      chosen : (x lead : ℕ) → 0 < x → lead ≡ whereSome x lead
+      chosen zero lead l = absurd (omega arith)
+      chosen (suc x) lead l = refl
 
   -- the leading coefficient is a residue
   pub leading-below : 0 < x → getD r (spot m w i (x - 1) (h - 1)) 0 < p

@@ -153,7 +153,7 @@ module _ {p reciprocal n m w k : ℕ} {r u v spare indices degrees : List ℕ} (
         remove-asked (removing .columns) (removing .lists) (removing .standing) turn (removing .ready) (removing .row-room) (removing .cell-room)
 
     module _ {r′ u′ v′ : List ℕ} (d : SecondMove p n m w k i (most - 1) r u v indices degrees r′ u′ v′) where
-      pub cleared-step : Cleared p n m w k 1 r u v r′ u′ v′ indices degrees
+      cleared-step : Cleared p n m w k 1 r u v r′ u′ v′ indices degrees
       cleared-step = record {
         lists = lists-on (removing .columns) (removing .lists) (removing .standing) turn d;
         before = before-on (removing .columns) (removing .lists) (removing .standing) turn d;
@@ -165,6 +165,11 @@ module _ {p reciprocal n m w k : ℕ} {r u v spare indices degrees : List ℕ} (
               onward = λ c e q. rw (N.add-comm 1 c, add-one) (more next q);
             };
       }
+
+      -- one step more
+      pub cleared-more : {count : ℕ} {r₀ u₀ v₀ : List ℕ} → Cleared p n m w k count r₀ u₀ v₀ r u v indices degrees
+          → Cleared p n m w k (count + 1) r₀ u₀ v₀ r′ u′ v′ indices degrees
+      cleared-more x = cleared-then x cleared-step
 
       pub clear-falls : leftOf n m w r′ indices degrees < leftOf n m w r indices degrees
       clear-falls = falls (removing .columns) (removing .lists) (removing .standing) turn d

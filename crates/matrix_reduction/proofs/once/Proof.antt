@@ -1,5 +1,6 @@
 use mathlib.Core.Path.{sym}
 use native.Mathlib.Omega.{arith}
+use Prim.Native.Nat.{ℕ}
 use denote.Ref.{now}
 use Rattle.matrix_pivots.specs.NextPair.{IsNextOf}
 use Rattle.matrix_pivots.specs.Pivot.{valuesOf, PivotLists}
@@ -11,9 +12,16 @@ use borrow.Author.Needs.{needs}
 use Rattle.matrix_reduction.proofs.once.Statement.{statement}
 use Rattle.matrix_reduction.proofs.once.Tie as tie
 
--- where the function starts, seen from the pivots
+-- where the function starts, seen from the pivots, and the pivots, seen from the choice of rows
 abbrev start : tie.After-all → tie.Start
-start c = search needs
+start c = c .before .before .before .before .before .before .before .before
+
+abbrev pivots : tie.After-l → tie.After-all
+pivots c = c .before .before .before .before .before .before .before
+
+-- the values of the rows
+abbrev values : tie.After-all → ℕ → ℕ
+values c = let args = start c .args in valuesOf (args .m) (args .w) (now (args .r))
 
 -- the pivots
 at-hand : (c : tie.After-all) → let args = start c .args in
@@ -21,8 +29,8 @@ at-hand : (c : tie.After-all) → let args = start c .args in
 at-hand c = search (needs, found)
 
 -- the rows that the step is made on
-next : (c : tie.After-l) → let args = start (search needs) .args in
-    IsNextOf (args .n) (args .m) (valuesOf (args .m) (args .w) (now (args .r))) (Rows (c .l .given .0 .0) (c .l .given .0 .1 .0))
+next : (c : tie.After-l) → let args = start (pivots c) .args in
+    IsNextOf (args .n) (args .m) (values (pivots c)) (Rows (c .l .given .0 .0) (c .l .given .0 .1 .0))
 next c = search (needs, next-is)
 
 room-requires : tie.Need-room-requires
@@ -64,7 +72,7 @@ same-length c = search needs
 returns : tie.Need-returns
 returns c =
     let all : tie.After-all = search needs in
-    stepped-none (start all .pre) (next-is _ _ _ _ _ (all .all .ensures) _ _ (c .before .before .next-rows .ensures) (c .enum-told .given .1))
+    stepped-none (start all .pre) (next-is _ _ (values all) _ _ (all .all .ensures) _ _ (c .before .before .next-rows .ensures) (c .enum-told .given .1))
 
 slice-aggregate-plan : tie.Need-slice-aggregate-plan
 slice-aggregate-plan c = search needs

@@ -9,7 +9,7 @@ use Rattle.matrix_reduction.proofs.run.Tie as tie
 
 -- where the function starts, seen from the pivots
 abbrev start : tie.After-all → tie.Start
-start c = search needs
+start c = c .before .before .before .before .before .before .before .before .before .before
 
 -- the pivots
 at-hand : (c : tie.After-all) → let args = start c .args in

@@ -50,8 +50,9 @@ Inv-loop buf₀ spare₀ to from stride count w top c e md i₀ buf spare i =
 abbrev μ-loop : tie.MeasureT-loop
 μ-loop buf₀ spare₀ to from stride count w top c e md i₀ buf spare i = count - i
 
+-- where the function starts, seen from a turn of the loop
 abbrev start : tie.In-loop Inv-loop μ-loop → tie.Start Inv-loop μ-loop
-start c = search needs
+start c = c .before .before .before .before
 
 loop-holds : tie.Need-loop-holds Inv-loop μ-loop
 loop-holds c = (writing-start, refl)

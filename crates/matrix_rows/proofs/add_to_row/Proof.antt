@@ -47,8 +47,12 @@ Inv-loop row₀ other m w top c e md j₀ row j = Adding (md .p) (c .0) e w m (i
 abbrev μ-loop : tie.MeasureT-loop
 μ-loop row₀ other m w top c e md j₀ row j = m - j
 
-ends : (c : tie.In-loop Inv-loop μ-loop) → let start : tie.Start Inv-loop μ-loop = search needs in let args = start .args in
-    c .before .loop .j * args .w + args .w ≤ args .m * args .w
+-- where the function starts, seen from a turn of the loop
+abbrev start : tie.In-loop Inv-loop μ-loop → tie.Start Inv-loop μ-loop
+start c = c .before .before .before .before
+
+-- cell j ends within the row
+ends : (c : tie.In-loop Inv-loop μ-loop) → let args = start c .args in c .before .loop .j * args .w + args .w ≤ args .m * args .w
 ends c = line-end _ _ _ (c .loop-test .taken)
 
 loop-holds : tie.Need-loop-holds Inv-loop μ-loop

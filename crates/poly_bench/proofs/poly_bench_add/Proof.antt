@@ -8,8 +8,12 @@ use Rattle.poly.proofs.residues.Range.{in-range}
 use Rattle.poly_bench.proofs.poly_bench_add.Statement.{statement}
 use Rattle.poly_bench.proofs.poly_bench_add.Tie as tie
 
+-- where the function starts, seen from past the first test
+abbrev start : tie.Else1 → tie.Start
+start c = c .before .before .before .before
+
 -- past the first test p is accepted
-accepted : (c : tie.Else1) → let start : tie.Start = search needs in Accepted (start .args .p)
+accepted : (c : tie.Else1) → Accepted (start c .args .p)
 accepted c = c .before .accepts .ensures .0 (not-false _ (c .if1 .left))
 
 accepts-requires : tie.Need-accepts-requires

@@ -11,18 +11,22 @@ use Rattle.matrix_buffers.proofs.Bounds.{matrix-few}
 use Rattle.matrix_refusals.specs.Refused.{Numbers}
 use Rattle.matrix_refusals.specs.checks.CheckParts.{OfNumbers, OfCoefficients}
 use Rattle.matrix_refusals.proofs.checks.Verdicts.{in-bounds}
-use Rattle.printer_format.specs.Line.{read}
+use Rattle.printer_format.specs.Line.{Lines, read}
 use Rattle.printer_format.specs.File.{cellLines}
 use Rattle.printer_files.specs.Input.{MatrixRead}
 use Rattle.printer_files.proofs.Table.{body-numbers, body-wrong, body-coefficient, body-matrix}
 use Rattle.printer_files.proofs.read_body.Statement.{statement}
 use Rattle.printer_files.proofs.read_body.Tie as tie
 
+-- where the function starts, seen from past the first test; the number of coefficients, and their lines
 abbrev start : tie.After-enum-told → tie.Start
-start c = search needs
+start c = c .before .before .before .before .before
 
 abbrev places : tie.After-enum-told → ℕ
 places c = start c .args .n * start c .args .m * (start c .args .d + 1)
+
+abbrev lines : tie.After-enum-told → Lines
+lines c = let args = start c .args in cellLines (args .n) (args .m) (args .d) (drop (args .at) (args .s .now))
 
 -- past the first test the numbers are in range, and the matrix has room
 numbers : (c : tie.After-enum-told) → Numbers (start c .args .p) (start c .args .n) (start c .args .m) (start c .args .d)
@@ -41,10 +45,10 @@ within c = omega (arith, few-places c, start c .pre .places)
 
 -- past the second test the cells are as said, and their numbers stand at the front of the room
 abbrev filled : tie.After-enum-told2 → tie.After-read-matrix
-filled c = search needs
+filled c = c .before .before .before .before
 
 abbrev tested : tie.After-enum-told2 → tie.After-enum-told
-tested c = search needs
+tested c = filled c .before .before
 
 abbrev after : tie.After-enum-told2 → List ℕ
 after c = filled c .read-matrix .last .1 .1 .1 .1 .1 .0 ++ drop (places (tested c)) (start (tested c) .args .room .now)
@@ -55,8 +59,7 @@ new-places c = filled c .read-matrix .kept .1 .1 .1 .1 .1 .0 ∙ length-take-le 
 after-within : (c : tie.After-enum-told2) → places (tested c) ≤ length (after c)
 after-within c = simp length-append (omega (arith, new-places c))
 
-cells : (c : tie.After-enum-told2) → let args = start (tested c) .args in
-    cellLines (args .n) (args .m) (args .d) (drop (args .at) (args .s .now)) ≡ read (take (places (tested c)) (after c)) []
+cells : (c : tie.After-enum-told2) → lines (tested c) ≡ read (take (places (tested c)) (after c)) []
 cells c =
     subst (MatrixRead _ _) (c .enum-told2 .given .1) (filled c .read-matrix .ensures)
     ∙ ap (λ (l : List ℕ). read l []) (sym (take-at _ _ (places (tested c)) (new-places c)))
@@ -109,7 +112,8 @@ same-length c = search needs
 returns-2 : tie.Need-returns-2
 returns-2 c =
     let call : tie.After-read-matrix = search needs in
-    body-wrong (numbers (call .before .before)) (subst (MatrixRead _ _) (c .before .line .given .1) (call .read-matrix .ensures))
+    let said = call .before .before in
+    body-wrong (numbers said) (subst (MatrixRead (lines said) _) (c .before .line .given .1) (call .read-matrix .ensures))
 
 enum-told-2 : tie.Need-enum-told-2
 enum-told-2 c = search needs

@@ -30,8 +30,12 @@ cast-read-body-3 c = search needs
 cast-read-body-4 : tie.Need-cast-read-body-4
 cast-read-body-4 c = search needs
 
+-- where the function starts, seen from the head's numbers
+abbrev start : tie.After-p → tie.Start
+start c = c .before .before .before .before .before .before
+
 -- the head's numbers
-taken : (c : tie.After-p) → let start : tie.Start = search needs in let s = start .args .s .now in let found = c .p .given .0 in
+taken : (c : tie.After-p) → let s = start c .args .s .now in let found = c .p .given .0 in
     HeadTaken (headLines s) s (found .0) (found .1 .0) (found .1 .1 .0) (found .1 .1 .1 .0) (found .1 .1 .1 .1 .0)
 taken c = subst (HeadRead _ _) (c .p .given .1) (c .before .before .read-head .ensures)
 

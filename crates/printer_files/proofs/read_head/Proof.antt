@@ -8,22 +8,22 @@ use Rattle.printer_files.proofs.Heading.{Heading, heading-start, headin
 use Rattle.printer_files.proofs.read_head.Statement.{statement}
 use Rattle.printer_files.proofs.read_head.Tie as tie
 
--- ## What is known after each line
+-- ## What is known after each line, from which the line before is seen as `first`, `second`, `third`
 
 abbrev text : tie.After-p → List ℕ
-text c = let start : tie.Start = search needs in start .args .s .now
+text c = c .before .before .before .before .before .args .s .now
 
 one-line : (c : tie.After-p) → Heading (text c) (c .p .given .0 .0 ∷ []) 3 1 (c .p .given .0 .1 .0)
 one-line c = heading-next (text c) (heading-start (text c)) (subst (FieldRead _ _) (c .p .given .1) (c .before .before .read-field .ensures))
 
 abbrev first : tie.After-n → tie.After-p
-first c = search needs
+first c = c .before .before .before .before .before
 
 two-lines : (c : tie.After-n) → Heading (text (first c)) (first c .p .given .0 .0 ∷ c .n .given .0 .0 ∷ []) 2 2 (c .n .given .0 .1 .0)
 two-lines c = heading-next (text (first c)) (one-line (first c)) (subst (FieldRead _ _) (c .n .given .1) (c .before .before .read-field2 .ensures))
 
 abbrev second : tie.After-m → tie.After-n
-second c = search needs
+second c = c .before .before .before .before .before
 
 three-lines : (c : tie.After-m) → let earlier = first (second c) in
     Heading (text earlier) (earlier .p .given .0 .0 ∷ second c .n .given .0 .0 ∷ c .m .given .0 .0 ∷ []) 1 3 (c .m .given .0 .1 .0)
@@ -31,7 +31,7 @@ three-lines c =
     heading-next (text (first (second c))) (two-lines (second c)) (subst (FieldRead _ _) (c .m .given .1) (c .before .before .read-field3 .ensures))
 
 abbrev third : tie.After-d → tie.After-m
-third c = search needs
+third c = c .before .before .before .before .before
 
 -- ## The needs
 

@@ -11,8 +11,9 @@ use Rattle.printer_files.proofs.Ending.{ended-wrong, ended-extra, ended
 use Rattle.printer_files.proofs.read_matrix.Statement.{statement}
 use Rattle.printer_files.proofs.read_matrix.Tie as tie
 
+-- where the function starts, seen from the cells that were read
 abbrev start : tie.After-read-cells → tie.Start
-start c = search needs
+start c = c .before .before .before .before
 
 few : (c : tie.After-read-cells) → start c .args .n * start c .args .m ≤ 64
 few c = mul-le-mul {n₁ = start c .args .n} {m₁ = start c .args .m} {n₂ = 8} {m₂ = 8} (start c .pre .rows) (start c .pre .columns)
@@ -21,13 +22,13 @@ few c = mul-le-mul {n₁ = start c .args .n} {m₁ = start c .args .m} {n₂ = 8
 abbrev matrix : tie.After-read-cells → Lines
 matrix c = let args = start c .args in matrixLines (args .n) (args .m) (args .d) (drop (args .at) (args .s .now))
 
-missed : (c : tie.After-c) → let call : tie.After-read-cells = search needs in
+missed : (c : tie.After-c) → let call = c .before .before .before .before in
     Missed (matrix call) (start call .args .n * start call .args .m) (c .c .given .0 .0)
-missed c = let call : tie.After-read-cells = search needs in subst (CellsRead _ _ _ _) (c .c .given .1) (call .read-cells .ensures)
+missed c = let call = c .before .before .before .before in subst (CellsRead (matrix call) _ _ _) (c .c .given .1) (call .read-cells .ensures)
 
-took : (c : tie.After-end) → let call : tie.After-read-cells = search needs in
+took : (c : tie.After-end) → let call = c .before .before .before .before in
     TookCells (matrix call) (start call .args .s .now) (call .read-cells .last .1 .1 .1 .1 .1 .0) (c .end .given .0 .0)
-took c = let call : tie.After-read-cells = search needs in subst (CellsRead _ _ _ _) (c .end .given .1) (call .read-cells .ensures)
+took c = let call = c .before .before .before .before in subst (CellsRead (matrix call) _ _ _) (c .end .given .1) (call .read-cells .ensures)
 
 read-cells-requires : tie.Need-read-cells-requires
 read-cells-requires c κs = search needs

@@ -18,15 +18,17 @@ Inv-loop s at n m d room₀ count width i₀ c₀ a₀ room i c a =
 abbrev μ-loop : tie.MeasureT-loop
 μ-loop s at n m d room₀ count width i₀ c₀ a₀ room i c a = count - c
 
+-- where the function starts, seen from a turn of the loop
 abbrev start : tie.In-loop Inv-loop μ-loop → tie.Start Inv-loop μ-loop
-start c = search needs
+start c = c .before .before .before .before
 
 -- the next line's numbers have their places
 within : (c : tie.In-loop Inv-loop μ-loop) → c .before .loop .a + (start c .args .d + 1) ≤ length (c .before .loop .room)
 within c = storing-room _ _ _ _ _ _ _ _ _ (c .before .loop .inv) (c .loop-test .taken)
 
+-- the turn that a line is read in
 abbrev turn : tie.After-read-line Inv-loop μ-loop → tie.In-loop Inv-loop μ-loop
-turn c = search needs
+turn c = c .before .before .before .before
 
 -- what was read of the next line
 line-read : (c : tie.After-read-line Inv-loop μ-loop) → let args = start (turn c) .args in let s = args .s .now in

@@ -11,8 +11,9 @@ use Rattle.printer_reading.proofs.Comparing.{key-inside}
 use Rattle.printer_reading.proofs.read_line.Statement.{statement}
 use Rattle.printer_reading.proofs.read_line.Tie as tie
 
+-- where the function starts, seen from past the test of the key
 abbrev start : tie.Else1 → tie.Start
-start c = search needs
+start c = c .before .before .before .before .before
 
 on : (c : tie.Else1) → startsWith (start c .args .key .now) (drop (start c .args .at) (start c .args .s .now)) ≡ true
 on c = sym (c .before .starts-with .ensures) ∙ not-false _ (c .if1 .left)

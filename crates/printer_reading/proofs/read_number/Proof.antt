@@ -27,7 +27,7 @@ digits : (c : tie.Else2) → let end = c .before .before in let args = end .befo
 digits c = record { some = omega (arith, c .before .if1 .left); few = c .if2 .left; count = count (c .before .before) }
 
 -- past the third there is no needless zero
-plain : (c : tie.Else3) → isPlain (word (search needs)) ≡ true
+plain : (c : tie.Else3) → isPlain (word (c .before .before .before .before)) ≡ true
 plain c = sym (c .before .is-plain .ensures) ∙ not-false _ (c .if3 .left)
 
 digits-end-requires : tie.Need-digits-end-requires

@@ -6,8 +6,12 @@ use Rattle.printer_writing.proofs.Writing.{wrote-then, first-room, next
 use Rattle.printer_writing.proofs.put_answer.Statement.{statement}
 use Rattle.printer_writing.proofs.put_answer.Tie as tie
 
+-- where the function starts, seen from past the first part
+abbrev start : tie.After-put-counts → tie.Start
+start c = c .before .before .before .before .before
+
 -- room for the second and the third part after the first
-later : (c : tie.After-put-counts) → let start : tie.Start = search needs in let args = start .args in
+later : (c : tie.After-put-counts) → let args = start c .args in
     let rest = resultText (args .n) (args .m) (args .d) (args .r .now) ++ determinantText (args .n) (args .m) (args .det .now) in
     Room (c .put-counts .last .0) (c .put-counts .result) rest
 later c = search (needs, next-room)

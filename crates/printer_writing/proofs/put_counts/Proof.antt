@@ -6,8 +6,12 @@ use Rattle.printer_writing.proofs.Writing.{wrote-then, first-room, next
 use Rattle.printer_writing.proofs.put_counts.Statement.{statement}
 use Rattle.printer_writing.proofs.put_counts.Tie as tie
 
+-- where the function starts, seen from past the first line
+abbrev start : tie.After-put-field → tie.Start
+start c = c .before .before .before .before
+
 -- room for the second and the third line after the first
-later : (c : tie.After-put-field) → let start : tie.Start = search needs in let args = start .args in
+later : (c : tie.After-put-field) → let args = start c .args in
     Room (c .put-field .last .0) (c .put-field .result) (line (bytes "rank=") (args .rank ∷ []) ++ line (bytes "steps=") (args .steps ∷ []))
 later c = search (needs, next-room)
 

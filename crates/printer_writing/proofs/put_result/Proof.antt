@@ -22,8 +22,9 @@ Inv-loop out₀ at n m d r count width i₀ c₀ a₀ out i c a =
 abbrev μ-loop : tie.MeasureT-loop
 μ-loop out₀ at n m d r count width i₀ c₀ a₀ out i c a = count - c
 
+-- where the function starts, seen from a turn of the loop
 abbrev start : tie.In-loop Inv-loop μ-loop → tie.Start Inv-loop μ-loop
-start c = search needs
+start c = c .before .before .before .before
 
 -- the numbers of the next cell
 within : (c : tie.In-loop Inv-loop μ-loop) → c .before .loop .a + (start c .args .d + 1) ≤ length (start c .args .r .now)

@@ -7,10 +7,10 @@ use Rattle.matrix.proofs.popov_form.form.Tie as tie
 
 -- where the reduction has a rank, and where it was made
 abbrev ranked : tie.After-finish-arg3 → tie.After-rank
-ranked c = search needs
+ranked c = c .before .before .before .before
 
 abbrev reduced : tie.After-rank → tie.After-reduce
-reduced c = search needs
+reduced c = c .before .before .before .before .before .before .before .before
 
 reduce-requires : tie.Need-reduce-requires
 reduce-requires c κs = search needs

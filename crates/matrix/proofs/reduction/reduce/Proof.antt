@@ -12,14 +12,18 @@ use borrow.Author.Needs.{needs}
 use Rattle.matrix.proofs.reduction.reduce.Statement.{statement}
 use Rattle.matrix.proofs.reduction.reduce.Tie as tie
 
+-- the call
+abbrev start : tie.After-enum-told → tie.Start
+start c = c .before .before .before .before .before .before .before
+
 -- past the checks all is in order
-known : (c : tie.After-enum-told) → let start : tie.Start = search needs in let args = start .args in
+known : (c : tie.After-enum-told) → let args = start c .args in
     Passed (args .p) (args .n) (args .m) (args .d) (now (args .a)) (now (args .r)) (now (args .u)) (now (args .v))
 known c = record { told = subst (Verdict false _ _ _ _ _ _ _) (c .enum-told .given .1) (c .before .before .check-reduction .ensures) }
 
 -- where the copy is made
 abbrev copied : tie.After-of → tie.After-copy
-copied c = search needs
+copied c = c .before .before .before .before .before .before .before .before .before .before .before .before .before .before
 
 check-reduction-requires : tie.Need-check-reduction-requires
 check-reduction-requires c κs = search needs

@@ -18,11 +18,14 @@ Inv-loop r₀ column₀ spare₀ index₀ degree₀ budget m w wide md rows r co
 abbrev μ-loop : tie.MeasureT-loop
 μ-loop r₀ column₀ spare₀ index₀ degree₀ budget m w wide md rows r column spare index degree = total (suc m) (valuesOf m w r)
 
--- a turn, and its rows
-abbrev turn : tie.After-l Inv-loop μ-loop → tie.After-degree-sum Inv-loop μ-loop
-turn c = search needs
+-- the call, a turn, and its rows
+abbrev start : tie.After-degree-sum Inv-loop μ-loop → tie.Start Inv-loop μ-loop
+start c = c .before .before .before .before .before .before .before .before
 
-rows-next : (c : tie.After-l Inv-loop μ-loop) → let start : tie.Start Inv-loop μ-loop = search needs in let args = start .args in
+abbrev turn : tie.After-l Inv-loop μ-loop → tie.After-degree-sum Inv-loop μ-loop
+turn c = c .before .before .before .before .before
+
+rows-next : (c : tie.After-l Inv-loop μ-loop) → let args = start (turn c) .args in
     IsNextOf (suc (args .m)) (args .m) (valuesOf (args .m) (args .w) (turn c .before .before .loop .r)) (Rows (c .l .given .0 .0) (c .l .given .0 .1 .0))
 rows-next c = next-is _ _ _ _ _ (turn c .before .before .loop .inv .asked .pivots) _ _ (rw add-one at (c .before .before .next-rows .ensures)) (c .l .given .1)
 

@@ -16,8 +16,9 @@ Inv-loop r₀ column₀ next₀ product₀ spare₀ index₀ degree₀ n w wide 
 abbrev μ-loop : tie.MeasureT-loop
 μ-loop r₀ column₀ next₀ product₀ spare₀ index₀ degree₀ n w wide md m₀ budget₀ r column next product spare index degree m budget = m
 
+-- the call
 abbrev start : tie.After-slice-known7 Inv-loop μ-loop → tie.Start Inv-loop μ-loop
-start c = search needs
+start c = c .before .before .before .before .before .before .before
 
 -- where a stage lies in the buffers
 lies : (c : tie.In-loop Inv-loop μ-loop) → let args = start (c .before .before) .args in let loop = c .before .loop in

@@ -6,18 +6,18 @@ use Rattle.matrix_determinant.proofs.Turning.{reduce-asked, take-asked,
 use Rattle.matrix_determinant.proofs.stages.stage.Statement.{statement}
 use Rattle.matrix_determinant.proofs.stages.stage.Tie as tie
 
--- the pivots are found, the rows reduced, and one of them taken out
+-- the call, and where the pivots are found, the rows reduced, and one of them taken out
 abbrev start : tie.After-all → tie.Start
-start c = search needs
+start c = c .before .before .before .before .before .before .before .before .before .before .before
 
 abbrev found : tie.After-reduce-columns-arg5 → tie.After-all
-found c = search needs
+found c = c .before .before .before .before .before .before .before .before .before
 
 abbrev reduced : tie.After-take-out-arg6 → tie.After-reduce-columns
-reduced c = search needs
+reduced c = c .before .before .before .before .before .before .before .before .before .before .before .before .before .before .before .before
 
 abbrev taken : tie.After-copy-arg2 → tie.After-take-out
-taken c = search needs
+taken c = c .before .before .before .before .before .before .before .before .before .before
 
 add-all : tie.Need-add-all
 add-all c = search needs

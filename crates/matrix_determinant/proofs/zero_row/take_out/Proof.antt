@@ -10,10 +10,14 @@ use Rattle.matrix_determinant.proofs.TakingOut.{entry-fits, cells-fit, 
 use Rattle.matrix_determinant.proofs.zero_row.take_out.Statement.{statement}
 use Rattle.matrix_determinant.proofs.zero_row.take_out.Tie as tie
 
+-- the call
+abbrev start : tie.After-lowest-zero → tie.Start
+start c = c .before .before .before .before .before .before .before
+
 -- the row that is found lies in the column
-fits : (c : tie.After-lowest-zero) → let start : tie.Start = search needs in let args = start .args in
+fits : (c : tie.After-lowest-zero) → let args = start c .args in
     c .lowest-zero .result .k * args .wide + args .wide ≤ length (now (args .column))
-fits c = let start : tie.Start = search needs in entry-fits (start .pre) (c .lowest-zero .ensures .lowest)
+fits c = entry-fits (start c .pre) (c .lowest-zero .ensures .lowest)
 
 lowest-zero-requires : tie.Need-lowest-zero-requires
 lowest-zero-requires c κs = search needs
@@ -38,9 +42,8 @@ part-multiply-end c = fits (search needs)
 
 multiply-requires : tie.Need-multiply-requires
 multiply-requires c κs =
-    let start : tie.Start = search needs in
     let found : tie.After-lowest-zero = search needs in
-    rw add-sub-cancel-left (start .pre .row _ (found .lowest-zero .ensures .lowest) .1)
+    rw add-sub-cancel-left (start found .pre .row _ (found .lowest-zero .ensures .lowest) .1)
 
 mul-cells : tie.Need-mul-cells
 mul-cells c = search needs
@@ -71,8 +74,7 @@ returns c =
     let parted : tie.After-part = search needs in
     let multiplied : tie.After-multiply = search needs in
     let found : tie.After-lowest-zero = search needs in
-    let start : tie.Start = search multiplied in
-    taken-out (start .pre) (found .lowest-zero .ensures .lowest) _ (parted .part .ensures)
+    taken-out (start found .pre) (found .lowest-zero .ensures .lowest) _ (parted .part .ensures)
     (rw (add-sub-cancel-left, found .lowest-zero .ensures .sign-is) at (multiplied .multiply .ensures))
 
 pub take-out-spec : {M : Type 1} → statement M

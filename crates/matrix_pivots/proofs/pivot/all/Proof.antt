@@ -24,7 +24,7 @@ abbrev μ-loop : tie.MeasureT-loop
 
 -- where the function starts, seen from a turn of the loop
 abbrev start : tie.In-loop Inv-loop μ-loop → tie.Start Inv-loop μ-loop
-start c = search needs
+start c = c .before .before .before .before .before
 
 -- row i ends within the matrix
 ends : (c : tie.In-loop Inv-loop μ-loop) → let args = start c .args in c .before .loop .at + args .m * args .w ≤ length (now (args .r))
@@ -77,7 +77,7 @@ loop-again : tie.Need-loop-again Inv-loop μ-loop
 loop-again c =
     let args = start (c .before .before) .args in
     let inv = c .before .before .before .loop .inv in
-    let same = ap (valueOf _ _) (row-part (args .m) (args .w) _ _ (now (args .r)) (inv .1)) in (
+    let same = ap (valueOf (args .m) (args .w)) (row-part (args .m) (args .w) _ _ (now (args .r)) (inv .1)) in (
       omega arith,
       omega (arith, add-mul (c .before .before .before .loop .i) 1 (args .m * args .w), one-mul (args .m * args .w)),
       changing-turn _ _ _ _ (inv .2) _ (omega arith) (c .of .ensures .index-is ∙ ap (Reduction.index (args .m)) same),

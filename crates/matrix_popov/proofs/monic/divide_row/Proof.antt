@@ -1,7 +1,7 @@
 use native.Mathlib.Omega.{arith}
 use borrow.Author.Needs.{needs}
 use Prim.Native.Nat.{_<_}
-use Rattle.matrix_popov.proofs.monic.OneRow.{divisor-is, zero-row, leading-below, r-row, u-row, cell-most}
+use Rattle.matrix_popov.proofs.monic.OneRow.{zero-row, divisor-is, leading-below, r-row, u-row, cell-most}
 use Rattle.matrix_popov.proofs.monic.divide_row.Statement.{statement}
 use Rattle.matrix_popov.proofs.monic.divide_row.Tie as tie
 
@@ -51,7 +51,7 @@ returns-2 c =
     record {
       c = led .coefficient .result .0;
       f = inverted .inverse .result .0;
-      c-is = divisor-is _ _ _ some (led .coefficient .ensures);
+      c-is = divisor-is (start .pre) some (led .coefficient .ensures);
       inverse = inverted .inverse .ensures;
       r-divided = divided .scale-row .ensures;
       u-divided = followed .scale-row2 .ensures;

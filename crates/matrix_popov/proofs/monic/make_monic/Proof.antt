@@ -12,8 +12,9 @@ Inv-loop r₀ u₀ v₀ index degree n m w md i₀ r u v i = Dividing (md .p) n 
 abbrev μ-loop : tie.MeasureT-loop
 μ-loop r₀ u₀ v₀ index degree n m w md i₀ r u v i = n - i
 
+-- the call
 abbrev start : tie.At-loop Inv-loop μ-loop → tie.Start Inv-loop μ-loop
-start head = search needs
+start head = head .before .before .before .before .before .before
 
 loop-holds : tie.Need-loop-holds Inv-loop μ-loop
 loop-holds c = search (needs, dividing-start)

@@ -1,13 +1,13 @@
 use borrow.Author.Needs.{needs}
 use native.Mathlib.Omega.{arith}
-use mathlib.Core.Path.{_≡_, refl, _∙_}
+use mathlib.Core.Path.{_≡_, refl}
 use Prim.Native.Nat.{_<_}
 use denote.Ref.{now}
 use lib.ListN.{length}
 use Rattle.matrix_popov.specs.second_step.Removing.{ClearAsked, Cleared}
 use Rattle.matrix_popov.proofs.second_step.Excesses.{leftOf}
-use Rattle.matrix_popov.proofs.second_step.Clearing.{cleared-then, cleared-row, cleared-start, r-same, u-same, v-same, count-fits}
-use Rattle.matrix_popov.proofs.second_step.Clearing.{highest-asked, clear-on, clear-asked, cleared-step, clear-falls}
+use Rattle.matrix_popov.proofs.second_step.Clearing.{cleared-row, cleared-start, r-same, u-same, v-same, count-fits}
+use Rattle.matrix_popov.proofs.second_step.Clearing.{highest-asked, clear-on, clear-asked, cleared-more, clear-falls}
 use Rattle.matrix_popov.proofs.second_step.clear_row.Statement.{statement}
 use Rattle.matrix_popov.proofs.second_step.clear_row.Tie as tie
 
@@ -18,8 +18,9 @@ Inv-loop r₀ u₀ v₀ spare₀ index degree k n m w md count₀ r u v spare co
 abbrev μ-loop : tie.MeasureT-loop
 μ-loop r₀ u₀ v₀ spare₀ index degree k n m w md count₀ r u v spare count = leftOf n m w r index degree
 
+-- the call
 abbrev start : tie.After-shared-slice-known2 Inv-loop μ-loop → tie.Start Inv-loop μ-loop
-start c = search needs
+start c = c .before .before .before .before .before .before
 
 -- what is known at the loop's head
 here : (head : tie.At-loop Inv-loop μ-loop) → let args = start (head .before) .args in
@@ -71,7 +72,9 @@ loop-less c =
     let removed : tie.After-remove Inv-loop μ-loop = search needs in
     let other : tie.Else1 Inv-loop μ-loop = search needs in
     let found = other .before .before in
-    clear-falls (here (found .before .before)) (found .highest .ensures) (some other) (removed .remove .ensures)
+    let left = removed .remove .last in
+    clear-falls (here (found .before .before)) (found .highest .ensures) (some other)
+    {r′ = left .0} {u′ = left .1 .0} {v′ = left .1 .1 .0} (removed .remove .ensures)
 
 loop-again : tie.Need-loop-again Inv-loop μ-loop
 loop-again c =
@@ -79,9 +82,10 @@ loop-again c =
     let other : tie.Else1 Inv-loop μ-loop = search needs in
     let found = other .before .before in
     let head = found .before .before in
-    let inv = head .loop .inv in
-    let step = cleared-step (here head) (found .highest .ensures) (some other) (removed .remove .ensures) in
-    (cleared-then (inv .0) step, removed .remove .kept .1 .1 .1 .0 ∙ inv .1)
+    let left = removed .remove .last in
+    let cleared = cleared-more (here head) (found .highest .ensures) (some other)
+    {r′ = left .0} {u′ = left .1 .0} {v′ = left .1 .1 .0} (removed .remove .ensures) (head .loop .inv .0) in
+    (cleared, rw (removed .remove .kept .1 .1 .1 .0) (head .loop .inv .1))
 
 pub clear-row-spec : {M : Type 1} → statement M
 clear-row-spec =

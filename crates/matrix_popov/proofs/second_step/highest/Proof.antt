@@ -14,8 +14,9 @@ Inv-loop r index degree k m w at₀ most₀ i₀ at most i = (i ≤ k) × IsHigh
 abbrev μ-loop : tie.MeasureT-loop
 μ-loop r index degree k m w at₀ most₀ i₀ at most i = k - i
 
+-- the call
 abbrev start : tie.At-loop Inv-loop μ-loop → tie.Start Inv-loop μ-loop
-start c = search needs
+start c = c .before .before .before .before
 
 loop-holds : tie.Need-loop-holds Inv-loop μ-loop
 loop-holds c = (omega arith, highest-start _)

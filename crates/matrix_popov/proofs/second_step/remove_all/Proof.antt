@@ -15,8 +15,9 @@ Inv-loop r₀ u₀ v₀ spare₀ index degree n m w md count₀ k₀ r u v spare
 abbrev μ-loop : tie.MeasureT-loop
 μ-loop r₀ u₀ v₀ spare₀ index degree n m w md count₀ k₀ r u v spare count k = n - k
 
+-- the call
 abbrev start : tie.At-loop Inv-loop μ-loop → tie.Start Inv-loop μ-loop
-start head = search needs
+start head = head .before .before .before .before .before .before .before
 
 loop-holds : tie.Need-loop-holds Inv-loop μ-loop
 loop-holds c = let call : tie.Start Inv-loop μ-loop = search needs in (cleared-start (call .pre) (record { none = λ a j l la. absurd (omega arith) }), refl)

@@ -1,18 +1,25 @@
 use borrow.Author.Needs.{needs}
 use native.Mathlib.Omega.{arith}
 use mathlib.Core.List.{List}
-use Prim.Native.Nat.{ℕ, _≤_}
-use lib.ListN.{length}
+use Prim.Native.Nat.{ℕ, _+_, _-_, _≤_}
+use lib.ListN.{length, getD}
 use Rattle.theory_lists.proofs.Grid.{one-line}
-use Rattle.matrix_reduction.specs.first_step.Asked.{AdvanceAsked}
+use Rattle.matrix_reduction.specs.multiple.Factor.{Factor}
+use Rattle.matrix_reduction.specs.first_step.Asked.{AdvanceAsked, SubtractAsked}
 use Rattle.matrix_reduction.proofs.first_step.LinesAsked.{subtract-asked, renew-asked}
 use Rattle.matrix_reduction.proofs.first_step.advance.Statement.{statement}
 use Rattle.matrix_reduction.proofs.first_step.advance.Tie as tie
 
--- a row of the spare room is longer than a cell of V
-width-small : {p reciprocal n m w l k reach : ℕ} {r u v spare indices degrees : List ℕ}
-    → AdvanceAsked p reciprocal n m w l k reach r u v spare indices degrees → w ≤ length spare
-width-small {n = n} {w = w} asked = omega (arith, asked .move .cell-room, one-line n w (omega (arith, asked .move .l-fits)))
+module _ {p reciprocal n m w l k reach : ℕ} {r u v spare indices degrees : List ℕ}
+    (asked : AdvanceAsked p reciprocal n m w l k reach r u v spare indices degrees) where
+  -- a row of the spare room is longer than a cell of V
+  width-small : w ≤ length spare
+  width-small = omega (arith, asked .move .cell-room, one-line n w (omega (arith, asked .move .l-fits)))
+
+  -- what the subtraction asks
+  subtraction-asked : {e c f : ℕ} → Factor p m w l k r indices degrees e c f
+      → SubtractAsked p reciprocal n m w l k e c f (getD degrees k 0) reach (w + 1 - getD degrees l 0) r u v spare
+  subtraction-asked g = subtract-asked (asked .plan .ready) (asked .move) g
 
 plan-requires : tie.Need-plan-requires
 plan-requires c κs = search needs
@@ -36,10 +43,7 @@ sub-t28 : tie.Need-sub-t28
 sub-t28 c = search needs
 
 subtract-requires : tie.Need-subtract-requires
-subtract-requires c κs =
-    let planned : tie.After-plan = search needs in
-    let start : tie.Start = search needs in
-    subtract-asked (start .pre .plan .ready) (start .pre .move) (planned .plan .ensures)
+subtract-requires c κs = search (needs, subtraction-asked)
 
 renew-requires : tie.Need-renew-requires
 renew-requires c κs =

@@ -19,13 +19,13 @@ abbrev μ-loop : tie.MeasureT-loop
 
 -- where the function starts, seen from the loop's head, and where a step is made
 abbrev start : tie.At-loop Inv-loop μ-loop → tie.Start Inv-loop μ-loop
-start c = search needs
+start c = c .before .before .before .before .before .before .before .before .before
 
 abbrev made : tie.After-slice-known15 Inv-loop μ-loop → tie.After-advance Inv-loop μ-loop
-made c = search needs
+made c = c .before .before .before .before .before .before .before .before .before .before .before .before .before
 
 -- what is known in a turn
-turn : (c : tie.After-l Inv-loop μ-loop) → let head : tie.At-loop Inv-loop μ-loop = search needs in let args = start head .args in
+turn : (c : tie.After-l Inv-loop μ-loop) → let head = c .before .before .before .before .before in let args = start head .args in
     Turn (args .md .p) (args .md .reciprocal) (args .n) (args .m) (args .w)
     (now (args .r)) (now (args .u)) (now (args .v)) (now (args .spare)) (now (args .index)) (now (args .degree))
     (head .loop .r) (head .loop .u) (head .loop .v) (head .loop .spare) (head .loop .index) (head .loop .degree) (head .loop .count) (head .loop .spent)
@@ -118,8 +118,7 @@ loop-less c = falls (turn (search needs)) _ _ _ _ _ (made (c .before) .advance .
 
 loop-again : tie.Need-loop-again Inv-loop μ-loop
 loop-again c =
-    let step = made (c .before) in
-    running-on (turn (search needs)) _ _ _ _ _ (step .advance .ensures) _ (step .advance .kept .1 .1 .1 .0) _ _
+    running-on (turn (search needs)) _ _ _ _ _ (made (c .before) .advance .ensures) _ (made (c .before) .advance .kept .1 .1 .1 .0) _ _
     (let had : tie.After-or-zero Inv-loop μ-loop = search needs in had .or-zero .ensures) (c .or-zero2 .ensures)
 
 pub repeat-spec : {M : Type 1} → statement M

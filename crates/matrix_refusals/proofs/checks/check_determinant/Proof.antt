@@ -10,8 +10,12 @@ use Rattle.matrix_refusals.proofs.checks.Verdicts.{not-square, determin
 use Rattle.matrix_refusals.proofs.checks.check_determinant.Statement.{statement}
 use Rattle.matrix_refusals.proofs.checks.check_determinant.Tie as tie
 
+-- where the function starts, seen from past the first test
+abbrev start : tie.After-enum-told → tie.Start
+start c = c .before .before .before .before
+
 -- past the first test the numbers are in range
-numbers : (c : tie.After-enum-told) → let start : tie.Start = search needs in let args = start .args in Numbers (args .p) (args .n) (args .m) (args .d)
+numbers : (c : tie.After-enum-told) → let args = start c .args in Numbers (args .p) (args .n) (args .m) (args .d)
 numbers c = subst (OfNumbers _ _ _ _) (c .enum-told .given .1) (c .before .before .check-numbers .ensures)
 
 check-numbers-requires : tie.Need-check-numbers-requires

@@ -9,11 +9,15 @@ use Rattle.matrix_refusals.specs.Refused.{InShape}
 use Rattle.matrix_refusals.proofs.checks.check_numbers.Statement.{statement}
 use Rattle.matrix_refusals.proofs.checks.check_numbers.Tie as tie
 
+-- where the function starts, seen from past the third test
+abbrev start : tie.Else3 → tie.Start
+start c = c .before .before .before .before .before .before
+
 -- what is known past each test
 accepted : (c : tie.Else1) → Accepted (c .before .before .args .p)
 accepted c = c .before .accepts .ensures .0 (not-false _ (c .if1 .left))
 
-shape : (c : tie.Else3) → let start : tie.Start = search needs in InShape (start .args .n) (start .args .m)
+shape : (c : tie.Else3) → InShape (start c .args .n) (start c .args .m)
 shape c =
     let n = c .before .before .before .one-to-eight .ensures .0 (not-false _ (c .before .before .if2 .left)) in
     let m = c .before .one-to-eight2 .ensures .0 (not-false _ (c .if3 .left)) in

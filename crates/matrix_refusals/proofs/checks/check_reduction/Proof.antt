@@ -12,8 +12,12 @@ use Rattle.matrix_refusals.proofs.checks.Verdicts.{wrong-here, wrong-la
 use Rattle.matrix_refusals.proofs.checks.check_reduction.Statement.{statement}
 use Rattle.matrix_refusals.proofs.checks.check_reduction.Tie as tie
 
+-- where the function starts, seen from past the first test
+abbrev start : tie.After-enum-told → tie.Start
+start c = c .before .before .before .before
+
 -- past the first test the numbers and two lengths are right
-known : (c : tie.After-enum-told) → let start : tie.Start = search needs in let args = start .args in
+known : (c : tie.After-enum-told) → let args = start c .args in
     OfMatrix (args .p) (args .n) (args .m) (args .d) (length (now (args .a))) (args .r) Fine
 known c = subst (OfMatrix _ _ _ _ _ _) (c .enum-told .given .1) (c .before .before .check-matrix .ensures)
 

@@ -14,9 +14,13 @@ used-requires c κs = search needs
 returns : tie.Need-returns
 returns c = let start : tie.Start = search needs in nothing-added _ _ _ _ _ _ (start .pre) (sym (c .before .used .ensures .0) ∙ c .if1 .taken)
 
+-- where the function starts, seen from past the test
+abbrev start : tie.Else1 → tie.Start
+start c = c .before .before .before .before
+
 -- there is room for what b has
-room : (c : tie.Else1) → let start : tie.Start = search needs in start .args .e + c .before .used .result ≤ length (start .args .a .now)
-room c = let start : tie.Start = search needs in fits _ _ _ _ _ _ (start .pre) _ (c .before .used .ensures .0) (omega arith)
+room : (c : tie.Else1) → start c .args .e + c .before .used .result ≤ length (start c .args .a .now)
+room c = fits _ _ _ _ _ _ (start c .pre) _ (c .before .used .ensures .0) (omega arith)
 
 add-end : tie.Need-add-end
 add-end c = omega (arith, room c)

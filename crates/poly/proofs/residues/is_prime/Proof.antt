@@ -36,11 +36,15 @@ div-q c = search needs
 returns-4 : tie.Need-returns-4 Inv-loop μ-loop
 returns-4 c = says-yes (by-root _ _ (c .before .loop .inv .none) (omega arith) (div-lt-iff-lt-mul (omega arith) .0 (c .if4 .taken)))
 
+-- where the function starts, seen from a turn of the loop
+abbrev start : tie.Else4 Inv-loop μ-loop → tie.Start Inv-loop μ-loop
+start c = c .before .before .before .before .before
+
 mul-if5 : tie.Need-mul-if5 Inv-loop μ-loop
-mul-if5 c = let start : tie.Start Inv-loop μ-loop = search needs in omega (arith, div-mul-le-self (start .args .p) (c .before .loop .d))
+mul-if5 c = omega (arith, div-mul-le-self (start c .args .p) (c .before .loop .d))
 
 -- in a turn p is at least five times d
-low : (c : tie.Else4 Inv-loop μ-loop) → let start : tie.Start Inv-loop μ-loop = search needs in 5 * c .before .loop .d ≤ start .args .p
+low : (c : tie.Else4 Inv-loop μ-loop) → 5 * c .before .loop .d ≤ start c .args .p
 low c = room _ _ (c .before .loop .inv) (c .if4 .left)
 
 returns-5 : tie.Need-returns-5 Inv-loop μ-loop
