@@ -7,7 +7,9 @@ use printer_library::OUTPUT;
 
 fn main() {
     if 1 < os::arg_count() {
-        say(b"printer: it takes no arguments; its text comes from standard input: printer < FILE\n");
+        say(
+            b"printer: it takes no arguments; its text comes from standard input: printer < FILE\n",
+        );
         return;
     }
     if libc::isatty(STDIN_FILENO) == 1 {
