@@ -1,4 +1,4 @@
-/* The row operation and the product of `arithmetic` beside plain C of the same method, in one run.
+/* The row operation and the product of `poly` beside plain C of the same method, in one run.
  *
  * poly figures  prints a line of figures for each input: nanoseconds per place (row) or per pair of places (product);
  *               says on standard error how far it is

@@ -2,8 +2,8 @@
 //! and the comparison of a printer's answers with this program's.
 
 use crate::printer;
-use crate::progress::Progress;
 use crate::sample::{self, Sample, Source};
+use crate::workers;
 use std::io::{self, Write};
 use std::process::{Command, Output, Stdio};
 
@@ -246,30 +246,15 @@ impl Tally {
     }
 }
 
-/// How many printers run at the same time.
-const WORKERS: u64 = 2;
-
 /// Runs the printer on texts 0 to count - 1 of the seed. An error means that it
 /// can't be run.
 pub fn compare(printer: &str, count: u64, seed: u64) -> io::Result<Tally> {
-    let progress = Progress::new("fuzz", count);
-    let work = |first: u64| -> io::Result<Tally> {
-        let mut tally = Tally::default();
-        for number in (first..count).step_by(WORKERS as usize) {
-            compare_text(printer, seed, number, &mut tally)?;
-            progress.step();
-        }
-        Ok(tally)
-    };
-    std::thread::scope(|scope| {
-        let start = |first| scope.spawn(move || work(first));
-        let workers: Vec<_> = (0..WORKERS).map(start).collect();
-        let mut all = Tally::default();
-        for worker in workers {
-            all.add(&worker.join().expect("a worker panicked")?);
-        }
-        Ok(all)
-    })
+    let work = |number, tally: &mut Tally| compare_text(printer, seed, number, tally);
+    let mut all = Tally::default();
+    for part in workers::share("fuzz", count, work)? {
+        all.add(&part);
+    }
+    Ok(all)
 }
 
 fn compare_text(printer: &str, seed: u64, number: u64, tally: &mut Tally) -> io::Result<()> {

@@ -23,3 +23,4 @@ pub mod proved;
 pub mod reduce;
 pub mod refuse;
 pub mod sample;
+pub mod workers;

@@ -6,10 +6,10 @@ use crate::check::{self, Faults};
 use crate::det;
 use crate::matrix::Matrix;
 use crate::popov;
-use crate::progress::Progress;
 use crate::reduce;
 use crate::refuse::{self, Call, Service};
 use crate::sample::{self, Sample};
+use crate::workers;
 use moorbesen::{raw, Refusal};
 
 /// An answer by its numbers, for all services; what a service does not answer
@@ -419,6 +419,14 @@ impl Tally {
             self.failed += 1;
         }
     }
+
+    fn add_all(&mut self, other: &Tally) {
+        self.passed += other.passed;
+        self.failed += other.failed;
+        self.samples += other.samples;
+        self.square += other.square;
+        self.refusals += other.refusals;
+    }
 }
 
 /// Compares all refusal inputs and then samples 0 to count - 1 of the seed, each
@@ -430,13 +438,15 @@ pub fn compare(service: Service, count: u64, seed: u64) -> Tally {
         tally.add(agrees(&label, &input.call));
         tally.refusals += 1;
     }
-    let progress = Progress::new(service.name(), count);
-    for number in 0..count {
-        compare_sample(service, seed, number, &mut tally);
+    let work = |number, tally: &mut Tally| {
+        compare_sample(service, seed, number, tally);
         if service == Service::Determinant {
-            compare_other_shape(seed, number, &mut tally);
+            compare_other_shape(seed, number, tally);
         }
-        progress.step();
+        Ok(())
+    };
+    for part in workers::share(service.name(), count, work).expect("no comparison fails so") {
+        tally.add_all(&part);
     }
     tally
 }

@@ -1,7 +1,9 @@
-/* The functions of the library for this machine's processor: each hands its call to the server, which is started at the first one. */
+/* The functions of the library for this machine's processor: each hands its call to a server. Every thread has one of its own, which
+ * its first call starts. */
+#define _GNU_SOURCE
 #include "call.h"
 
-#include <pthread.h>
+#include <fcntl.h>
 #include <stdio.h>
 #include <stdlib.h>
 #include <string.h>
@@ -13,8 +15,7 @@ struct buffer {
     int lent; /* to be written */
 };
 
-static int to_server = -1, from_server = -1;
-static pthread_mutex_t one_call_at_a_time = PTHREAD_MUTEX_INITIALIZER;
+static _Thread_local int to_server = -1, from_server = -1;
 
 static void stop(const char *what)
 {
@@ -25,12 +26,11 @@ static void stop(const char *what)
 static void start_server(void)
 {
     int in[2], out[2];
-    if (pipe(in) || pipe(out))
+    if (pipe2(in, O_CLOEXEC) || pipe2(out, O_CLOEXEC))
         stop("no pipe");
     if (fork() == 0) {
         dup2(in[0], 0);
         dup2(out[1], 1);
-        close(in[0]), close(in[1]), close(out[0]), close(out[1]);
         execl(EMULATOR, EMULATOR, SERVER, (char *)0);
         _exit(127);
     }
@@ -72,7 +72,6 @@ static void get_back(struct buffer b)
 static struct reply ask(struct call call, const struct buffer *b)
 {
     struct reply reply;
-    pthread_mutex_lock(&one_call_at_a_time);
     if (to_server < 0)
         start_server();
     for (int i = 0; i < BUFFERS; i++)
@@ -83,7 +82,6 @@ static struct reply ask(struct call call, const struct buffer *b)
     get(&reply, sizeof reply);
     for (int i = 0; i < BUFFERS; i++)
         get_back(b[i]);
-    pthread_mutex_unlock(&one_call_at_a_time);
     return reply;
 }
 

@@ -1,4 +1,4 @@
-// Reduction of matrices of polynomials, on buffers that the caller lends.
+// The services: reduction, single step, Popov form and determinant of matrices of polynomials, on buffers that the caller lends.
 pub mod determinant;
 pub mod popov_form;
 pub mod reduction;

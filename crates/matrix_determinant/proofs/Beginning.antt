@@ -23,9 +23,9 @@ use Rattle.matrix_buffers.specs.Held.{Held}
 use Rattle.matrix_buffers.proofs.Diagonal.{held-identity}
 use Rattle.matrix_buffers.proofs.Held.{held-bounded, held-matrix-same}
 use Rattle.matrix_buffers.proofs.Place.{by-rows}
-use Rattle.matrix_determinant.specs.Lay.{Laid}
-use Rattle.matrix_determinant.proofs.Parting.{held-next, held-column, column-cell}
-use Rattle.matrix_determinant.specs.Run.{FrontHeld}
+use Rattle.matrix_determinant.specs.FirstStage.{Laid}
+use Rattle.matrix_determinant.proofs.LastColumn.{held-next, held-column, column-cell}
+use Rattle.matrix_determinant.specs.AllStages.{FrontHeld}
 
 module _ {p : ℕ} (P : Prime p) {n w wide : ℕ} (rows : 0 < n) (places : 0 < w) (widened : w ≤ wide) (room : n * (w - 1) < wide)
     {A : ℕ → Row (Zp p)} {a r column product : List ℕ} (input : Held (by-rows n n w) p a A) (laid-out : Laid n w wide a r column product) where

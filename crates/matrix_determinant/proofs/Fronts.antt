@@ -21,11 +21,11 @@ use Rattle.poly.specs.Holds.{Holds}
 use Rattle.matrix_buffers.specs.Held.{Held}
 use Rattle.matrix_buffers.proofs.Place.{by-rows}
 use Rattle.matrix_determinant.proofs.first_columns.StageColumns.{room-kept}
-use Rattle.matrix_determinant.specs.Signed.{signedProduct, MultiplyAsked}
-use Rattle.matrix_determinant.proofs.Parting.{column-cell}
-use Rattle.matrix_determinant.proofs.Signed.{multiply-asked, holds-signed}
+use Rattle.matrix_determinant.specs.SignedProduct.{signedProduct, MultiplyAsked}
+use Rattle.matrix_determinant.proofs.LastColumn.{column-cell}
+use Rattle.matrix_determinant.proofs.SignedProduct.{multiply-asked, holds-signed}
 use Rattle.matrix_determinant.specs.Stage.{StageAsked, Staged}
-use Rattle.matrix_determinant.specs.Run.{FrontHeld, Rooms, RunAsked, Ran}
+use Rattle.matrix_determinant.specs.AllStages.{FrontHeld, Rooms, RunAsked, Ran}
 use Rattle.matrix_determinant.proofs.Turning.{smaller}
 
 -- a polynomial by itself

@@ -1,7 +1,7 @@
-pub mod Signed
-pub mod Parting
-mod Laying
-mod TakingOut
+pub mod SignedProduct
+pub mod LastColumn
+mod FirstStage
+mod ZeroRow
 mod Turning
 mod Fronts
 mod Beginning

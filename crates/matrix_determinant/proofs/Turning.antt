@@ -31,11 +31,11 @@ use Rattle.theory_reduction.proofs.Pair.{no-pair-same}
 use Rattle.matrix_pivots.specs.Pivot.{valuesOf, Pivots}
 use Rattle.matrix_determinant.specs.first_columns.StageColumns.{ReduceAsked, ColumnsReduced}
 use Rattle.matrix_determinant.proofs.first_columns.StageColumns.{agree, room-kept}
-use Rattle.matrix_determinant.specs.Parting.{Parted}
-use Rattle.matrix_determinant.specs.Signed.{signed, signedProduct, MultiplyAsked}
-use Rattle.matrix_determinant.specs.TakingOut.{LowestZero, negative, TakeAsked, TakenOut}
-use Rattle.matrix_determinant.proofs.Parting.{held-next, held-column, column-cell}
-use Rattle.matrix_determinant.proofs.Signed.{multiply-asked, holds-signed}
+use Rattle.matrix_determinant.specs.LastColumn.{Parted}
+use Rattle.matrix_determinant.specs.SignedProduct.{signed, signedProduct, MultiplyAsked}
+use Rattle.matrix_determinant.specs.ZeroRow.{LowestZero, negative, TakeAsked, TakenOut}
+use Rattle.matrix_determinant.proofs.LastColumn.{held-next, held-column, column-cell}
+use Rattle.matrix_determinant.proofs.SignedProduct.{multiply-asked, holds-signed}
 use Rattle.matrix_determinant.specs.Stage.{StageHeld, StageAsked, Staged}
 
 -- a stage is smaller than the one before it

@@ -14,9 +14,9 @@ use Rattle.matrix_buffers.specs.Bounds.{Checked}
 use Rattle.matrix_buffers.specs.Held.{matrixOf}
 use Rattle.matrix_buffers.proofs.Held.{held-matrixOf}
 use Rattle.matrix_buffers.proofs.Place.{by-rows}
-use Rattle.matrix_determinant.specs.Lay.{LayAsked, Laid}
+use Rattle.matrix_determinant.specs.FirstStage.{LayAsked, Laid}
 use Rattle.matrix_determinant.specs.Determinant.{DeterminantAsked, IsDeterminant}
-use Rattle.matrix_determinant.specs.Run.{FrontHeld, RunAsked, Ran}
+use Rattle.matrix_determinant.specs.AllStages.{FrontHeld, RunAsked, Ran}
 use Rattle.matrix_determinant.proofs.Beginning.{first-stage}
 
 module _ {p reciprocal n d : ℕ} {a r : List ℕ} (asked : DeterminantAsked p reciprocal n d a r) where

@@ -1,8 +1,8 @@
-pub mod Signed
-pub mod Parting
-pub mod Lay
-pub mod TakingOut
+pub mod SignedProduct
+pub mod LastColumn
+pub mod FirstStage
+pub mod ZeroRow
 pub mod Stage
-pub mod Run
+pub mod AllStages
 pub mod Determinant
 pub mod first_columns

@@ -1,7 +1,7 @@
 // The product of the entries that are factors of the determinant.
 ghost use mathlib.Core.Path.{_≡_};
 ghost use Rattle.poly.specs.residues.Modulus.{Ready};
-ghost use Rattle.matrix_determinant.specs.Signed.{unitOf, signedProduct, MultiplyAsked};
+ghost use Rattle.matrix_determinant.specs.SignedProduct.{unitOf, signedProduct, MultiplyAsked};
 use poly::Modulus;
 use poly::Residue;
 use poly::arithmetic;

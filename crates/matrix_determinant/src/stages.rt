@@ -1,7 +1,7 @@
 // One stage of the determinant, and all of them, one after the other.
 ghost use Rattle.matrix_determinant.specs.Stage.{StageAsked, Staged};
-ghost use Rattle.matrix_determinant.specs.Run.{RunAsked, Ran};
-use crate::first_columns;
+ghost use Rattle.matrix_determinant.specs.AllStages.{RunAsked, Ran};
+use crate::first_columns::reduce_columns;
 use crate::product;
 use crate::zero_row;
 use matrix_pivots::pivot;
@@ -28,18 +28,7 @@ fn stage(
     ensures { λ left. ⌜ Staged (md .p) m w wide budget left (now (r .entry)) (now (column .entry)) (now (product .entry)) (now (r .exit)) (now (column .exit)) (now (product .exit)) ⌝ }
 {
     pivot::all(r, index, degree, m + 1, m, w);
-    let left = first_columns::reduce_columns(
-        r,
-        column,
-        spare,
-        index,
-        degree,
-        budget,
-        m,
-        w,
-        wide,
-        md,
-    );
+    let left = reduce_columns(r, column, spare, index, degree, budget, m, w, wide, md);
     zero_row::take_out(r, column, next, product, spare, index, m, w, wide, md);
     let less = next.len();
     arithmetic::copy(next, &mut r[..less]);

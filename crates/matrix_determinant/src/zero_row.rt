@@ -1,7 +1,7 @@
 // A row is taken out.
 ghost use Prim.Native.Nat.{_<_};
 ghost use lib.ListN.{length};
-ghost use Rattle.matrix_determinant.specs.TakingOut.{IsLower, ZeroFound, TakeAsked, TakenOut};
+ghost use Rattle.matrix_determinant.specs.ZeroRow.{IsLower, ZeroFound, TakeAsked, TakenOut};
 use crate::last_column;
 use crate::product;
 use poly::Modulus;

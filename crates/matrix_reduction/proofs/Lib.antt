@@ -1,6 +1,6 @@
 pub mod Found
 pub mod Loop
-pub mod Running
+pub mod Repeating
 pub mod NonzeroRows
 pub mod Whole
 pub mod SingleStep

@@ -1,4 +1,4 @@
-// The refusals, with their numbers and places.
+// The refusals with their numbers and places, and the checks that lead to them.
 ghost use mathlib.Core.Path.{_≡_};
 ghost use Rattle.matrix_refusals.specs.Number.{numberOf, placeOf};
 

@@ -2,10 +2,7 @@
 use matrix_refusals::Check;
 use matrix_refusals::Refusal;
 use matrix_refusals::checks;
-use printer_format::keys::COLUMNS;
-use printer_format::keys::DEGREE;
-use printer_format::keys::MODULUS;
-use printer_format::keys::ROWS;
+use printer_format::keys;
 use printer_reading::Cells;
 use printer_reading::Number;
 ghost use mathlib.Core.Path.{_≡_};
@@ -48,16 +45,18 @@ enum Body {
 fn read_head(s: &[u8]) -> Head
     ensures { λ r. ⌜ HeadRead (headLines (now (s .entry))) (now (s .entry)) r ⌝ }
 {
-    let Number::Read { value: p, next: i } = printer_reading::read_field(s, 0, &MODULUS) else {
+    let Number::Read { value: p, next: i } = printer_reading::read_field(s, 0, &keys::MODULUS)
+    else {
         return Head::Wrong(1);
     };
-    let Number::Read { value: n, next: j } = printer_reading::read_field(s, i, &ROWS) else {
+    let Number::Read { value: n, next: j } = printer_reading::read_field(s, i, &keys::ROWS) else {
         return Head::Wrong(2);
     };
-    let Number::Read { value: m, next: k } = printer_reading::read_field(s, j, &COLUMNS) else {
+    let Number::Read { value: m, next: k } = printer_reading::read_field(s, j, &keys::COLUMNS)
+    else {
         return Head::Wrong(3);
     };
-    let Number::Read { value: d, next } = printer_reading::read_field(s, k, &DEGREE) else {
+    let Number::Read { value: d, next } = printer_reading::read_field(s, k, &keys::DEGREE) else {
         return Head::Wrong(4);
     };
     Head::Read { p, n, m, d, next }

@@ -1,7 +1,6 @@
 // Reading at an index of a text: numbers, lines and the cells of a matrix. What is read of a line goes into lent room, which
 // has a place for each number that the line should have.
 use printer_format::keys;
-use printer_format::keys::INPUT;
 ghost use mathlib.Core.Path.{_≡_};
 ghost use mathlib.Core.List.{[], _∷_};
 ghost use Prim.Native.Nat.{_+_, _*_, _≤_};
@@ -199,7 +198,7 @@ pub fn read_cells(s: &[u8], at: usize, n: usize, m: usize, d: usize, room: &mut 
     let mut c = 0;
     let mut a = 0;
     while c < count {
-        let key = keys::cell_key(INPUT, m, c);
+        let key = keys::cell_key(keys::INPUT, m, c);
         let e = a + width;
         let Line::Read(next) = read_line(s, i, &key, &mut room[a..e]) else {
             return Cells::Wrong(c);

@@ -1,11 +1,5 @@
 // Writing at an index of lent room. Each function returns the index after what it wrote.
 use printer_format::keys;
-use printer_format::keys::ANSWER;
-use printer_format::keys::DETERMINANT;
-use printer_format::keys::PLACE;
-use printer_format::keys::RANK;
-use printer_format::keys::RESULT;
-use printer_format::keys::STEPS;
 ghost use mathlib.Core.Path.{_≡_};
 ghost use mathlib.Core.List.{[], _∷_, _++_};
 ghost use Prim.Native.Nat.{_<_};
@@ -119,7 +113,7 @@ fn put_result(out: &mut [u8], at: usize, n: usize, m: usize, d: usize, r: &[u16]
     let mut c = 0;
     let mut a = 0;
     while c < count {
-        let key = keys::cell_key(RESULT, m, c);
+        let key = keys::cell_key(keys::RESULT, m, c);
         let e = a + width;
         i = put_line(out, i, &key, &r[a..e]);
         c += 1;
@@ -133,8 +127,8 @@ pub fn put_refusal(out: &mut [u8], number: usize, place: usize) -> usize
     requires { ⌜ Room (now out) 0 (refusalText number place) ⌝ }
     ensures { λ e. ⌜ Wrote (now (out .entry)) 0 (refusalText number place) e (now (out .exit)) ⌝ }
 {
-    let i = put_field(out, 0, &ANSWER, number);
-    put_field(out, i, &PLACE, place)
+    let i = put_field(out, 0, &keys::ANSWER, number);
+    put_field(out, i, &keys::PLACE, place)
 }
 
 // The lines before those of the result.
@@ -142,9 +136,9 @@ fn put_counts(out: &mut [u8], rank: usize, steps: usize) -> usize
     requires { ⌜ Room (now out) 0 (countsText rank steps) ⌝ }
     ensures { λ e. ⌜ Wrote (now (out .entry)) 0 (countsText rank steps) e (now (out .exit)) ⌝ }
 {
-    let i = put_field(out, 0, &ANSWER, 0);
-    let j = put_field(out, i, &RANK, rank);
-    put_field(out, j, &STEPS, steps)
+    let i = put_field(out, 0, &keys::ANSWER, 0);
+    let j = put_field(out, i, &keys::RANK, rank);
+    put_field(out, j, &keys::STEPS, steps)
 }
 
 // "`det=` stands only where n equals m."
@@ -155,7 +149,7 @@ fn put_determinant(out: &mut [u8], at: usize, n: usize, m: usize, det: &[u16]) -
     if n != m {
         return at;
     }
-    put_line(out, at, &DETERMINANT, det)
+    put_line(out, at, &keys::DETERMINANT, det)
 }
 
 // The lines of an answer where nothing is refused; det is not looked at where n and m differ.

@@ -1,5 +1,5 @@
 use borrow.Author.Needs.{needs}
-use Rattle.matrix_determinant.proofs.Parting.{copied, cleared, filled}
+use Rattle.matrix_determinant.proofs.LastColumn.{copied, cleared, filled}
 use Rattle.matrix_determinant.proofs.last_column.fill.Statement.{statement}
 use Rattle.matrix_determinant.proofs.last_column.fill.Tie as tie
 

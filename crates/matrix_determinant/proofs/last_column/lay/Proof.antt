@@ -1,7 +1,7 @@
 use native.Mathlib.Omega.{arith}
 use mathlib.Core.Path.{sym}
 use lib.Seq.{length-take-le}
-use Rattle.matrix_determinant.proofs.Laying.{line-fits, input-asked, laid}
+use Rattle.matrix_determinant.proofs.FirstStage.{line-fits, input-asked, laid}
 use borrow.Author.Needs.{needs}
 use Rattle.matrix_determinant.proofs.last_column.lay.Statement.{statement}
 use Rattle.matrix_determinant.proofs.last_column.lay.Tie as tie

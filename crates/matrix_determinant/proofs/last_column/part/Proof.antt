@@ -4,7 +4,7 @@ use mathlib.Core.Path.{_≡_}
 use denote.Ref.{now}
 use Prim.Native.Nat.{_+_, _-_, _*_, _≤_}
 use lib.ListN.{length}
-use Rattle.matrix_determinant.proofs.Parting.{Parting, parting-start, row-parts, ends, next-asked, last-asked, parting-turn, parting-end}
+use Rattle.matrix_determinant.proofs.LastColumn.{Parting, parting-start, row-parts, ends, next-asked, last-asked, parting-turn, parting-end}
 use Rattle.matrix_determinant.proofs.last_column.part.Statement.{statement}
 use Rattle.matrix_determinant.proofs.last_column.part.Tie as tie
 

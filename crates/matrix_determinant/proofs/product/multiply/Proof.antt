@@ -3,8 +3,8 @@ use native.Mathlib.Omega.{arith}
 use mathlib.Core.Path.{sym, ap₂, _∙_}
 use lib.Seq.{length-take-le}
 use Rattle.poly.specs.arithmetic.Operations.{scaledBy}
-use Rattle.matrix_determinant.specs.Signed.{signedProduct}
-use Rattle.matrix_determinant.proofs.Signed.{used-asked, made-whole, made-size}
+use Rattle.matrix_determinant.specs.SignedProduct.{signedProduct}
+use Rattle.matrix_determinant.proofs.SignedProduct.{used-asked, made-whole, made-size}
 use Rattle.matrix_determinant.proofs.product.multiply.Statement.{statement}
 use Rattle.matrix_determinant.proofs.product.multiply.Tie as tie
 

@@ -3,7 +3,7 @@ use mathlib.Core.Logic.{inl, inr}
 use Prim.Native.Nat.{_-_}
 use native.Mathlib.Numerals.{add-one}
 use native.Mathlib.Omega.{arith}
-use Rattle.matrix_determinant.proofs.TakingOut.{Seen, seen-start, seen-zero, seen-on, seen-all}
+use Rattle.matrix_determinant.proofs.ZeroRow.{Seen, seen-start, seen-zero, seen-on, seen-all}
 use Rattle.matrix_determinant.proofs.zero_row.lowest_zero.Statement.{statement}
 use Rattle.matrix_determinant.proofs.zero_row.lowest_zero.Tie as tie
 

@@ -6,7 +6,7 @@ use Prim.Native.Nat.{_+_, _*_, _≤_}
 use denote.Ref.{now}
 use lib.ListN.{length}
 use lib.Seq.{length-take-le}
-use Rattle.matrix_determinant.proofs.TakingOut.{entry-fits, cells-fit, left-asked, taken-out}
+use Rattle.matrix_determinant.proofs.ZeroRow.{entry-fits, cells-fit, left-asked, taken-out}
 use Rattle.matrix_determinant.proofs.zero_row.take_out.Statement.{statement}
 use Rattle.matrix_determinant.proofs.zero_row.take_out.Tie as tie
 

@@ -4,8 +4,8 @@ use denote.Ref.{now}
 use Rattle.theory_lists.specs.Total.{total}
 use Rattle.matrix_pivots.proofs.NextPair.{next-is}
 use Rattle.matrix_pivots.specs.Pivot.{valuesOf}
-use Rattle.matrix_reduction.proofs.Running.{Running, running-start, next-asked, running-stop, count-fits}
-use Rattle.matrix_reduction.proofs.Running.{Turn, rows-fit, reach-fits, advance-asked, after-fits, lower, falls, running-on}
+use Rattle.matrix_reduction.proofs.Repeating.{Running, running-start, next-asked, running-stop, count-fits}
+use Rattle.matrix_reduction.proofs.Repeating.{Turn, rows-fit, reach-fits, advance-asked, after-fits, lower, falls, running-on}
 use Rattle.matrix_reduction.proofs.steps.repeat.Statement.{statement}
 use Rattle.matrix_reduction.proofs.steps.repeat.Tie as tie
 

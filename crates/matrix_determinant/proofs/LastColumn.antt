@@ -19,7 +19,7 @@ use Rattle.matrix_buffers.specs.Held.{Held}
 use Rattle.matrix_buffers.specs.Written.{CellsWritten}
 use Rattle.matrix_buffers.proofs.Place.{block-own, by-rows}
 use Rattle.matrix_buffers.proofs.CellByCell.{none-written, cell-changed, next-written}
-use Rattle.matrix_determinant.specs.Parting.{CellAsked, CellFilled, PartAsked, Parted}
+use Rattle.matrix_determinant.specs.LastColumn.{CellAsked, CellFilled, PartAsked, Parted}
 
 -- m cells of a column are as long as m cells of a row
 pub one-column : (m wide : ℕ) → m * (1 * wide) ≡ m * wide

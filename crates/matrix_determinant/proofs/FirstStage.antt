@@ -8,9 +8,9 @@ use lib.Seq.{take-at, length-take-le}
 use Rattle.theory_lists.proofs.Grid.{line-end, one-line}
 use Rattle.theory_lists.proofs.Skip.{skip-low}
 use Rattle.matrix_buffers.specs.Diagonal.{Diagonal}
-use Rattle.matrix_determinant.specs.Lay.{LayAsked, Laid}
-use Rattle.matrix_determinant.specs.Parting.{PartAsked, Parted}
-use Rattle.matrix_determinant.proofs.Parting.{one-column}
+use Rattle.matrix_determinant.specs.FirstStage.{LayAsked, Laid}
+use Rattle.matrix_determinant.specs.LastColumn.{PartAsked, Parted}
+use Rattle.matrix_determinant.proofs.LastColumn.{one-column}
 
 module _ {n w wide : ℕ} {a r column product : List ℕ} (asked : LayAsked n w wide a r column product) where
   pub line-fits : (n - 1) * w ≤ length r

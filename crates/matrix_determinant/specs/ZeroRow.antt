@@ -7,9 +7,9 @@ use lib.Dec.{eqb}
 use lib.ListN.{length, getD, take}
 use Rattle.theory_lists.specs.First.{First}
 use Rattle.theory_lists.specs.Part.{part}
-use Rattle.matrix_determinant.specs.Parting.{Parted}
+use Rattle.matrix_determinant.specs.LastColumn.{Parted}
 use Rattle.matrix_determinant.specs.declared.zero_row.ZeroRow.{ZeroRow}
-use Rattle.matrix_determinant.specs.Signed.{signedProduct, MultiplyAsked}
+use Rattle.matrix_determinant.specs.SignedProduct.{signedProduct, MultiplyAsked}
 
 -- "Of several zero rows the lowest is taken": k is the lowest row whose pivot index is 0, or `rows` where none is
 abbrev pub LowestZero : (rows : ℕ) (indices : List ℕ) (k : ℕ) → Type 0

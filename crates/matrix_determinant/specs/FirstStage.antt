@@ -4,7 +4,7 @@ use mathlib.Core.List.{List}
 use Prim.Native.Nat.{ℕ, _*_, _-_, _≤_, _<_}
 use lib.ListN.{length, take}
 use Rattle.matrix_buffers.specs.Diagonal.{Diagonal}
-use Rattle.matrix_determinant.specs.Parting.{Parted}
+use Rattle.matrix_determinant.specs.LastColumn.{Parted}
 
 -- a square matrix, room for all its columns but the last, for the last in wide cells, and for a wide cell
 pub record LayAsked (n w wide : ℕ) (a r column product : List ℕ) : Type 0 where

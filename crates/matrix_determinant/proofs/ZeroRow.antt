@@ -12,11 +12,11 @@ use Rattle.theory_algebra.proofs.Cases.{case-le}
 use Rattle.theory_lists.specs.Part.{part}
 use Rattle.theory_lists.proofs.Grid.{line-end}
 use Rattle.theory_lists.proofs.Skip.{skip-fits}
-use Rattle.matrix_determinant.specs.Parting.{PartAsked, Parted}
-use Rattle.matrix_determinant.specs.Signed.{signedProduct}
-use Rattle.matrix_determinant.specs.TakingOut.{LowestZero, negative, IsLower, ZeroFound, TakeAsked, TakenOut}
+use Rattle.matrix_determinant.specs.LastColumn.{PartAsked, Parted}
+use Rattle.matrix_determinant.specs.SignedProduct.{signedProduct}
+use Rattle.matrix_determinant.specs.ZeroRow.{LowestZero, negative, IsLower, ZeroFound, TakeAsked, TakenOut}
 use Rattle.matrix_determinant.specs.declared.zero_row.ZeroRow.{ZeroRow}
-use Rattle.matrix_determinant.proofs.Parting.{one-column}
+use Rattle.matrix_determinant.proofs.LastColumn.{one-column}
 
 -- where the search for the row stands when it has come to row i: of the rows before it x is the lowest zero one, with its sign, or
 -- row m + 1 where none is zero

@@ -23,7 +23,7 @@ use Rattle.poly.specs.arithmetic.Operations.{productAt, productOf, ProductAsked
 use Rattle.poly.specs.Holds.{Holds}
 use Rattle.poly.proofs.Ending.{ends-height}
 use Rattle.poly.proofs.arithmetic.Holds.{holds-product, holds-scaled, product-number}
-use Rattle.matrix_determinant.specs.Signed.{signedProduct, signed, MultiplyAsked}
+use Rattle.matrix_determinant.specs.SignedProduct.{signedProduct, signed, MultiplyAsked}
 
 -- the places in use are all of the polynomial
 used-at : (l : List ℕ) (n : ℕ) → n ≡ usedPlaces l → (i : ℕ) → getD (take n l) i 0 ≡ getD l i 0
