@@ -25,7 +25,9 @@ pub fn share<T: Default + Send>(
         let part = &part;
         let start = |first| scope.spawn(move || part(first));
         let workers: Vec<_> = (0..WORKERS).map(start).collect();
-        let join = |worker: std::thread::ScopedJoinHandle<io::Result<T>>| worker.join().expect("a worker panicked");
+        let join = |worker: std::thread::ScopedJoinHandle<io::Result<T>>| {
+            worker.join().expect("a worker panicked")
+        };
         workers.into_iter().map(join).collect()
     })
 }
