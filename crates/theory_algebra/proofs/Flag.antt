@@ -17,3 +17,9 @@ says-no h = ((λ e. absurd (true-false (sym e))), (λ a. absurd (h a)))
 -- where it is false, that does not hold
 pub denied : {A : Type 0} {r : Bool} → (r ≡ true) ↔ A → r ≡ false → A → ⊥
 denied e f a = true-false (sym (e .1 a) ∙ f)
+
+-- two flags that say whether one thing holds are equal
+pub flag-unique : {A : Type 0} (r s : Bool) → (r ≡ true) ↔ A → (s ≡ true) ↔ A → r ≡ s
+flag-unique true s f g = sym (g .1 (f .0 refl))
+flag-unique false true f g = f .1 (g .0 refl)
+flag-unique false false f g = refl

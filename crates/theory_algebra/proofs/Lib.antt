@@ -3,10 +3,8 @@ pub mod Field
 pub mod Cases
 pub mod Sum
 pub mod Series
-pub mod Polynomial
 pub mod Matrix
 pub mod Elementary
 pub mod Residue
-pub mod PrimeField
 pub mod Primality
 pub mod Flag

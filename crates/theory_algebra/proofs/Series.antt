@@ -1,16 +1,15 @@
--- The series over a commutative ring are a commutative ring again: `series R`.
-use mathlib.Core.Path.{_≡_, refl, sym, _∙_, ap, fun-ext}
+-- The laws of the operations on series, by which the series over a commutative ring are a commutative ring again.
+use mathlib.Core.Path.{_≡_, sym, _∙_, ap, fun-ext}
 use mathlib.Core.Logic.{_≢_}
 use Prim.Native.Nat.{ℕ, zero, suc, _-_, _≤_, _<_, zero-le}
 use native.Mathlib.Omega.{arith}
 use native.Mathlib.Nat as N
 use Rattle.theory_algebra.specs.Ring.{CommRing}
-use Rattle.theory_algebra.specs.Cases.{if-equal}
 use Rattle.theory_algebra.specs.Sum.{sum}
 use Rattle.theory_algebra.specs.Series.{_+ₛ_, _*ₛ_, mono, const}
 use Rattle.theory_algebra.proofs.Ring as Ring
-use Rattle.theory_algebra.proofs.Cases.{if-equal-same, if-equal-other, if-equal-ap}
-use Rattle.theory_algebra.proofs.Sum.{sum-nil, sum-suc, sum-cong, sum-null, sum-add, sum-mul, mul-sum, sum-single, sum-reverse}
+use Rattle.theory_algebra.proofs.Cases.{if-equal-same, if-equal-other}
+use Rattle.theory_algebra.proofs.Sum.{sum-nil, sum-suc, sum-cong, sum-add, sum-mul, mul-sum, sum-single, sum-reverse}
 
 module _ {F : Type 0} (R : CommRing F) where
   infixl 65 _⊕_ _⊞_
@@ -40,6 +39,23 @@ module _ {F : Type 0} (R : CommRing F) where
       row j l =
           let e : suc n - j ≡ suc (n - j) = omega arith in
           sym (ap (λ m. sum R m (a j)) e ∙ sum-suc R (n - j) (a j))
+
+  -- the sum of series, coefficient by coefficient
+  pub plus-comm : (f g : ℕ → F) → f ⊞ g ≡ g ⊞ f
+  unfolding _+ₛ_
+  plus-comm f g = fun-ext (λ k. add-comm (f k) (g k))
+
+  pub plus-assoc : (f g h : ℕ → F) → f ⊞ g ⊞ h ≡ f ⊞ (g ⊞ h)
+  unfolding _+ₛ_
+  plus-assoc f g h = fun-ext (λ k. add-assoc (f k) (g k) (h k))
+
+  pub plus-zero : (f : ℕ → F) → f ⊞ (λ k. 𝟘) ≡ f
+  unfolding _+ₛ_
+  plus-zero f = fun-ext (λ k. add-zero (f k))
+
+  pub plus-opposite : (f : ℕ → F) → f ⊞ (λ k. neg (f k)) ≡ (λ k. 𝟘)
+  unfolding _+ₛ_
+  plus-opposite f = fun-ext (λ k. add-neg (f k))
 
   pub times-assoc : (f g h : ℕ → F) → f ⊠ g ⊠ h ≡ f ⊠ (g ⊠ h)
   unfolding _*ₛ_
@@ -89,65 +105,5 @@ module _ {F : Type 0} (R : CommRing F) where
       ap (λ x. x ⊛ f (k - i)) (mono-other c d i ne) ∙ Ring.zero-mul R _)
       ∙ ap (λ x. x ⊛ f (k - d)) (mono-same c d)
 
-  -- the ring of series
-  unfoldable pub series : CommRing (ℕ → F)
-  unfolding _+ₛ_
-  series = record {
-    add = _⊞_;
-    mul = _⊠_;
-    neg = λ f k. neg (f k);
-    𝟘 = λ k. 𝟘;
-    𝟙 = const R 𝟙;
-    add-comm = λ f g. fun-ext (λ k. add-comm (f k) (g k));
-    add-assoc = λ f g h. fun-ext (λ k. add-assoc (f k) (g k) (h k));
-    add-zero = λ f. fun-ext (λ k. add-zero (f k));
-    add-neg = λ f. fun-ext (λ k. add-neg (f k));
-    mul-comm = times-comm;
-    mul-assoc = times-assoc;
-    mul-one = λ f. times-comm f (const R 𝟙) ∙ fun-ext (λ k. mono-times 𝟙 0 f k zero-le ∙ Ring.one-mul R _ ∙ ap f (N.sub-zero k));
-    mul-add = times-plus;
-  }
-
-  -- the coefficient at k of what its operations give
-  pub add-at : (f g : ℕ → F) (k : ℕ) → series .add f g k ≡ f k ⊕ g k
-  unfolding series _+ₛ_
-  add-at f g k = refl
-
-  pub mul-at : (f g : ℕ → F) (k : ℕ) → series .mul f g k ≡ sum R (suc k) (λ i. f i ⊛ g (k - i))
-  unfolding series _*ₛ_
-  mul-at f g k = refl
-
-  pub neg-at : (f : ℕ → F) (k : ℕ) → series .neg f k ≡ neg (f k)
-  unfolding series
-  neg-at f k = refl
-
-  pub neg-mono : (c : F) (d : ℕ) → series .neg (mono R c d) ≡ mono R (neg c) d
-  unfolding mono
-  neg-mono c d = fun-ext (λ k. neg-at (mono R c d) k ∙ if-equal-ap neg k d c 𝟘 ∙ ap (if-equal k d (neg c)) (Ring.neg-zero R))
-
-  pub zero-at : (k : ℕ) → series .𝟘 k ≡ 𝟘
-  unfolding series
-  zero-at k = refl
-
-  pub one-at : (k : ℕ) → series .𝟙 k ≡ const R 𝟙 k
-  unfolding series
-  one-at k = refl
-
-  -- c x^d f below d and from d on, and c f
-  pub mono-mul-low : (c : F) (d : ℕ) (f : ℕ → F) (k : ℕ) → k < d → series .mul (mono R c d) f k ≡ 𝟘
-  mono-mul-low c d f k l = mul-at (mono R c d) f k ∙ sum-null R (suc k) _ (λ i q.
-      ap (λ x. x ⊛ f (k - i)) (mono-other c d i (omega arith)) ∙ Ring.zero-mul R _)
-
-  pub mono-mul-high : (c : F) (d : ℕ) (f : ℕ → F) (k : ℕ) → d ≤ k → series .mul (mono R c d) f k ≡ c ⊛ f (k - d)
-  unfolding series
-  mono-mul-high = mono-times
-
-  pub const-mul-at : (c : F) (f : ℕ → F) (k : ℕ) → series .mul (const R c) f k ≡ c ⊛ f k
-  const-mul-at c f k = mono-mul-high c 0 f k zero-le ∙ ap (λ m. c ⊛ f m) (N.sub-zero k)
-
-  pub const-mul : (a b : F) → series .mul (const R a) (const R b) ≡ const R (a ⊛ b)
-  const-mul a b = fun-ext (λ k. const-mul-at a (const R b) k ∙ at k)
-    where
-      at : (k : ℕ) → a ⊛ const R b k ≡ const R (a ⊛ b) k
-      at zero = ap (λ x. a ⊛ x) (mono-same b 0) ∙ sym (mono-same (a ⊛ b) 0)
-      at (suc k) = ap (λ x. a ⊛ x) (mono-other b 0 (suc k) (omega arith)) ∙ Ring.mul-zero R a ∙ sym (mono-other (a ⊛ b) 0 (suc k) (omega arith))
+  pub times-one : (f : ℕ → F) → f ⊠ const R 𝟙 ≡ f
+  times-one f = times-comm f (const R 𝟙) ∙ fun-ext (λ k. mono-times 𝟙 0 f k zero-le ∙ Ring.one-mul R _ ∙ ap f (N.sub-zero k))

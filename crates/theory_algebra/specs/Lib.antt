@@ -6,4 +6,5 @@ pub mod Series
 pub mod Polynomial
 pub mod Matrix
 pub mod Prime
+pub mod Modulus
 pub mod Residue

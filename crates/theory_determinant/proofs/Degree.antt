@@ -7,8 +7,8 @@ use Rattle.theory_algebra.specs.Polynomial.{Below}
 use Rattle.theory_algebra.specs.Sum.{sum}
 use Rattle.theory_algebra.proofs.Ring as Ring
 use Rattle.theory_algebra.proofs.Sum.{sum-nil, sum-suc}
-use Rattle.theory_algebra.proofs.Series.{series}
-use Rattle.theory_algebra.proofs.Polynomial.{below-one, below-add, below-neg, below-mul}
+use Rattle.theory_rings.specs.Series.{series}
+use Rattle.theory_rings.proofs.Polynomial.{below-one, below-add, below-neg, below-mul}
 use Rattle.theory_lattice.specs.Row.{Row}
 use Rattle.theory_lattice.specs.PolynomialMatrix.{AllBounded}
 use Rattle.theory_lattice.proofs.Coefficients.{below-zero, below-more}

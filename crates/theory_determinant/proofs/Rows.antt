@@ -13,7 +13,7 @@ use Rattle.theory_lattice.specs.PolynomialMatrix.{AllBounded}
 use Rattle.theory_lists.proofs.Total.{total-ones, total-injection}
 use Rattle.theory_reduction.specs.Pivot.{value, values, pivot, height}
 use Rattle.theory_reduction.specs.Pair.{NoPair}
-use Rattle.theory_reduction.specs.Least.{Least, least}
+use Rattle.theory_reduction.proofs.Least.{Least, least}
 use Rattle.theory_reduction.proofs.Index.{height-less, height-bound, clash-of}
 use Rattle.theory_reduction.proofs.Pivot.{value-null, value-lead, lead-bounded}
 

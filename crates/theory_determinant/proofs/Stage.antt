@@ -9,8 +9,8 @@ use Rattle.theory_algebra.specs.Field.{Field}
 use Rattle.theory_algebra.specs.Polynomial.{Below}
 use Rattle.theory_algebra.proofs.Ring.{ring}
 use Rattle.theory_algebra.proofs.Ring as Ring
-use Rattle.theory_algebra.proofs.Series.{series}
-use Rattle.theory_algebra.proofs.Polynomial.{below-one, below-mul}
+use Rattle.theory_rings.specs.Series.{series}
+use Rattle.theory_rings.proofs.Polynomial.{below-one, below-mul}
 use Rattle.theory_lattice.specs.Term.{term}
 use Rattle.theory_lattice.specs.Row.{Row, Bounded}
 use Rattle.theory_lattice.specs.PolynomialMatrix.{AllBounded}
@@ -25,16 +25,15 @@ use Rattle.theory_reduction.specs.Step.{reduce-row}
 use Rattle.theory_reduction.proofs.Index.{height-pos, clash-second}
 use Rattle.theory_reduction.proofs.Pivot.{value-bound, value-null}
 use Rattle.theory_reduction.proofs.Lowering.{lowered}
-use Rattle.theory_reduction.proofs.Degrees.{D, totals-fall, column-kept, step-no-higher}
+use Rattle.theory_reduction.proofs.Degrees.{totals-fall, column-kept, step-no-higher}
+use Rattle.theory_reduction.specs.Narrow.{pivot-degree}
 use Rattle.theory_determinant.specs.Determinant.{without, sign-at, det, with-entry}
+use Rattle.theory_determinant.specs.Stage.{degrees}
+use Rattle.theory_determinant.specs.Stage as Specs
 use Rattle.theory_determinant.proofs.Degree.{below-sign}
 use Rattle.theory_determinant.proofs.Rows.{height-none, degree-bounds, degree-least}
 use Rattle.theory_determinant.proofs.Alternating.{det-addrow}
 use Rattle.theory_determinant.proofs.Expansion.{det-last, det-one}
-
--- the pivot degrees of the m + 1 rows of T in its first m columns, together
-abbrev pub degrees : {F : Type 0} → Field F → ℕ → ℕ → (ℕ → Row F) → ℕ
-degrees K size m T = total (suc m) (D K (suc m) m size T)
 
 module _ {F : Type 0} (K : Field F) (size B : ℕ) (whole : ℕ → F) where
   infixl 70 _⊛_
@@ -43,16 +42,8 @@ module _ {F : Type 0} (K : Field F) (size B : ℕ) (whole : ℕ → F) where
   abbrev S : CommRing (ℕ → F)
   S = series (K .ring)
 
-  -- at every moment of the stage of m columns: `product`, of the entries taken out so far, times the determinant of T is the whole.
-  -- E is what the degrees of the rows were together at the start of the stage; the parted column has at most the degree of its row and
-  -- what all rows have lost of E, and the product what is left of B.
-  pub record Stage (E m : ℕ) (T : ℕ → Row F) (product : ℕ → F) : Type 0 where
-    pub value : product ⊛ det S (suc m) T ≡ whole
-    pub bounded : AllBounded (K .ring) (suc m) m size T
-    pub within : E ≤ B
-    pub less : degrees K size m T ≤ E
-    pub column : (s : ℕ) → s < suc m → Below (K .ring) (T s m) (suc (D K (suc m) m size T s + (E - degrees K size m T)))
-    pub product-below : Below (K .ring) product (suc (B - E))
+  abbrev Stage : (E m : ℕ) → (ℕ → Row F) → (ℕ → F) → Type 0
+  Stage = Specs.Stage K size B whole
 
   -- a stage begins where row s has no degree above e s
   begun : (E m : ℕ) (T : ℕ → Row F) (product : ℕ → F) (e : ℕ → ℕ) → product ⊛ det S (suc m) T ≡ whole
@@ -62,26 +53,26 @@ module _ {F : Type 0} (K : Field F) (size B : ℕ) (whole : ℕ → F) where
     value = v;
     bounded = b;
     within = within;
-    less = omega (arith, total-le (suc m) (D K (suc m) m size T) e le);
+    less = omega (arith, total-le (suc m) (pivot-degree K (suc m) m size T) e le);
     column = λ s l. below-more (K .ring) (T s m) _ _ (room s l) (rows s l m (omega arith));
     product-below = p;
   }
     where
-      le : (s : ℕ) → s < suc m → D K (suc m) m size T s ≤ e s
+      le : (s : ℕ) → s < suc m → pivot-degree K (suc m) m size T s ≤ e s
       le s l = degree-least K m size (T s) (b s l) (e s) (λ c lc. rows s l c (omega arith))
 
-      room : (s : ℕ) → s < suc m → suc (e s) ≤ suc (D K (suc m) m size T s + (E - degrees K size m T))
+      room : (s : ℕ) → s < suc m → suc (e s) ≤ suc (pivot-degree K (suc m) m size T s + (E - degrees K size m T))
       room s l = omega (
         arith,
         le s l,
         total-skip m s e (omega arith),
-        total-skip m s (D K (suc m) m size T) (omega arith),
-        total-le m (λ i. D K (suc m) m size T (skip s i)) (λ i. e (skip s i)) (λ i li. le (skip s i) (skip-fits m s i li)),
+        total-skip m s (pivot-degree K (suc m) m size T) (omega arith),
+        total-le m (λ i. pivot-degree K (suc m) m size T (skip s i)) (λ i. e (skip s i)) (λ i li. le (skip s i) (skip-fits m s i li)),
       )
 
   module _ {E m : ℕ} {T : ℕ → Row F} {product : ℕ → F} (x : Stage E m T product) where
     abbrev rows : ℕ → ℕ
-    rows = D K (suc m) m size T
+    rows = pivot-degree K (suc m) m size T
 
     pub stage-column : (s : ℕ) → s < suc m → Below (K .ring) (T s m) (suc B)
     stage-column s l = below-more (K .ring) (T s m) _ _ (omega (arith, x .less, x .within, total-one (suc m) s rows l)) (x .column s l)

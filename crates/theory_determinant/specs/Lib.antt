@@ -1,1 +1,2 @@
 pub mod Determinant
+pub mod Stage

@@ -12,8 +12,10 @@ use Rattle.theory_algebra.specs.Polynomial.{Below, Degree}
 use Rattle.theory_algebra.specs.Matrix.{identity}
 use Rattle.theory_algebra.proofs.Ring as Ring
 use Rattle.theory_algebra.proofs.Sum.{sum-nil, sum-suc, sum-single}
-use Rattle.theory_algebra.proofs.Series.{series, mono-same, add-at, mul-at, neg-at, zero-at}
-use Rattle.theory_algebra.proofs.Polynomial.{below-mono, below-neg, below-one}
+use Rattle.theory_algebra.proofs.Series.{mono-same}
+use Rattle.theory_rings.specs.Series.{series}
+use Rattle.theory_rings.proofs.Series.{add-at, mul-at, neg-at, zero-at}
+use Rattle.theory_rings.proofs.Polynomial.{below-mono, below-neg, below-one}
 use Rattle.theory_algebra.proofs.Matrix.{identity-same, identity-other}
 
 module _ {F : Type 0} (R : CommRing F) where

@@ -11,8 +11,8 @@ use Rattle.theory_algebra.proofs.Ring as Ring
 use Rattle.theory_algebra.proofs.Field.{no-zero-divisor}
 use Rattle.theory_algebra.proofs.Cases.{case-le}
 use Rattle.theory_algebra.proofs.Sum.{sum-null}
-use Rattle.theory_algebra.proofs.Series.{add-at, mul-at}
-use Rattle.theory_algebra.proofs.Polynomial.{lead-mul}
+use Rattle.theory_rings.proofs.Series.{add-at, mul-at}
+use Rattle.theory_rings.proofs.Polynomial.{lead-mul}
 use Rattle.theory_lattice.specs.Term.{Term, term, up, TermOrder}
 use Rattle.theory_lattice.specs.Row.{Row, coef, Null, plus, scale}
 use Rattle.theory_lattice.specs.Lead.{Lead, Under, LeadsApart}

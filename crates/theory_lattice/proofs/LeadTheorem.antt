@@ -7,7 +7,7 @@ use native.Mathlib.Omega.{arith}
 use Rattle.theory_algebra.specs.Ring.{CommRing}
 use Rattle.theory_algebra.specs.Field.{Field}
 use Rattle.theory_algebra.specs.Polynomial.{IsPolynomial, Degree}
-use Rattle.theory_algebra.proofs.Polynomial.{degree, degree-unique}
+use Rattle.theory_rings.proofs.Polynomial.{degree, degree-unique}
 use Rattle.theory_lattice.specs.Term.{Term, up, TermOrder}
 use Rattle.theory_lattice.specs.Row.{Row, coef, Null, plus, scale, comb}
 use Rattle.theory_lattice.specs.Lead.{Lead, Under, LeadsApart}

@@ -2,7 +2,7 @@
 use Prim.Native.Nat.{ℕ}
 use Rattle.theory_algebra.specs.Ring.{CommRing}
 use Rattle.theory_algebra.specs.Matrix.{Same, product, identity}
-use Rattle.theory_algebra.proofs.Series.{series}
+use Rattle.theory_rings.specs.Series.{series}
 use Rattle.theory_algebra.proofs.Matrix.{same-refl, same-sym, same-trans, product-same, identity-product}
 use Rattle.theory_lattice.specs.Row.{Row}
 use Rattle.theory_lattice.specs.PolynomialMatrix.{Transformed, LeftEquivalent}

@@ -5,12 +5,12 @@ use Rattle.theory_algebra.specs.Ring.{CommRing}
 use Rattle.theory_algebra.specs.Polynomial.{IsPolynomial}
 use Rattle.theory_algebra.specs.Matrix.{transpose, product, identity, addrow}
 use Rattle.theory_algebra.proofs.Ring as Ring
-use Rattle.theory_algebra.proofs.Series.{series}
-use Rattle.theory_algebra.proofs.Polynomial.{polynomial-add, polynomial-neg, polynomial-mul, polynomial-identity}
+use Rattle.theory_rings.specs.Series.{series}
+use Rattle.theory_rings.proofs.Polynomial.{polynomial-add, polynomial-neg, polynomial-mul, polynomial-identity}
 use Rattle.theory_algebra.proofs.Matrix.{same-refl, identity-product}
 use Rattle.theory_algebra.proofs.Elementary.{addrow-at, addrow-product, product-addrow, addrow-inverse}
 use Rattle.theory_lattice.specs.Row.{Row}
-use Rattle.theory_lattice.specs.PolynomialMatrix.{Inverse, Transformed}
+use Rattle.theory_lattice.specs.PolynomialMatrix.{Inverses, Transformed}
 use Rattle.theory_lattice.proofs.PolynomialMatrix.{chain, cancel-left, inverse-identity, inverse-product, transformed-same}
 
 module _ {F : Type 0} (R : CommRing F) where
@@ -22,7 +22,7 @@ module _ {F : Type 0} (R : CommRing F) where
   start n m A = record { inverse = inverse-identity R n; forth = identity-product S n m A; back = identity-product S n m A }
 
   -- U and V′ follow a move E with the inverse E′
-  pub move : (n m : ℕ) (A B U V′ E E′ : ℕ → Row F) → Inverse R n E E′ → Transformed R n m A B U V′
+  pub move : (n m : ℕ) (A B U V′ E E′ : ℕ → Row F) → Inverses R n E E′ → Transformed R n m A B U V′
       → Transformed R n m A (product S n E B) (product S n E U) (product S n V′ E′)
   move n m A B U V′ E E′ e t = record {
     inverse = inverse-product R n E E′ U V′ e (t .inverse);
@@ -39,7 +39,7 @@ module _ {F : Type 0} (R : CommRing F) where
       (polynomial-add R _ _ (polynomial-identity R i j)
       (polynomial-mul R _ _ (polynomial-identity R i l) (polynomial-mul R _ _ p (polynomial-identity R k j))))
 
-  subtracter : (n l k : ℕ) (q : ℕ → F) → IsPolynomial R q → k < n → l ≢ k → Inverse R n (adder l k (S .neg q)) (adder l k q)
+  subtracter : (n l k : ℕ) (q : ℕ → F) → IsPolynomial R q → k < n → l ≢ k → Inverses R n (adder l k (S .neg q)) (adder l k q)
   subtracter n l k q p lk ne = record {
     left-polynomial = λ i j _ _. adder-polynomial l k (S .neg q) (polynomial-neg R q p) i j;
     right-polynomial = λ i j _ _. adder-polynomial l k q p i j;

@@ -3,11 +3,11 @@ use mathlib.Core.Path.{sym, _∙_, ap}
 use Prim.Native.Nat.{ℕ}
 use Rattle.theory_algebra.specs.Ring.{CommRing}
 use Rattle.theory_algebra.specs.Matrix.{Same, product, identity}
-use Rattle.theory_algebra.proofs.Series.{series}
-use Rattle.theory_algebra.proofs.Polynomial.{polynomial-product, polynomial-identity}
+use Rattle.theory_rings.specs.Series.{series}
+use Rattle.theory_rings.proofs.Polynomial.{polynomial-product, polynomial-identity}
 use Rattle.theory_algebra.proofs.Matrix.{same-refl, same-sym, product-assoc, product-same, identity-product}
 use Rattle.theory_lattice.specs.Row.{Row}
-use Rattle.theory_lattice.specs.PolynomialMatrix.{PolMat, Inverse, Transformed}
+use Rattle.theory_lattice.specs.PolynomialMatrix.{PolMat, Inverses, Transformed}
 
 module _ {F : Type 0} (R : CommRing F) where
   abbrev times : ℕ → (ℕ → Row F) → (ℕ → Row F) → ℕ → Row F
@@ -30,7 +30,7 @@ module _ {F : Type 0} (R : CommRing F) where
       ∙ product-same (series R) n n m (times n B B′) I C C h (same-refl n m C) i j li lj
       ∙ identity-product (series R) n m C i j li lj
 
-  pub inverse-sym : (n : ℕ) (U V′ : ℕ → Row F) → Inverse R n U V′ → Inverse R n V′ U
+  pub inverse-sym : (n : ℕ) (U V′ : ℕ → Row F) → Inverses R n U V′ → Inverses R n V′ U
   inverse-sym n U V′ v = record {
     left-polynomial = v .right-polynomial;
     right-polynomial = v .left-polynomial;
@@ -38,7 +38,7 @@ module _ {F : Type 0} (R : CommRing F) where
     right-left = v .left-right;
   }
 
-  pub inverse-identity : (n : ℕ) → Inverse R n I I
+  pub inverse-identity : (n : ℕ) → Inverses R n I I
   inverse-identity n = record {
     left-polynomial = λ i j _ _. polynomial-identity R i j;
     right-polynomial = λ i j _ _. polynomial-identity R i j;
@@ -47,13 +47,13 @@ module _ {F : Type 0} (R : CommRing F) where
   }
 
   -- (A B) (B′ A′) = 1
-  product-right : (n : ℕ) (A A′ B B′ : ℕ → Row F) → Inverse R n A A′ → Inverse R n B B′ → Same n n (times n (times n A B) (times n B′ A′)) I
+  product-right : (n : ℕ) (A A′ B B′ : ℕ → Row F) → Inverses R n A A′ → Inverses R n B B′ → Same n n (times n (times n A B) (times n B′ A′)) I
   product-right n A A′ B B′ a b = chain n n A B (times n B′ A′) A′ I (cancel-left n n B B′ A′ (b .left-right)) (a .left-right)
 
   product-polynomial : (n : ℕ) (A B : ℕ → Row F) → PolMat R n n A → PolMat R n n B → PolMat R n n (times n A B)
   product-polynomial n A B a b i j li lj = polynomial-product R n A B i j (λ k lk. a i k li lk) (λ k lk. b k j lk lj)
 
-  pub inverse-product : (n : ℕ) (A A′ B B′ : ℕ → Row F) → Inverse R n A A′ → Inverse R n B B′ → Inverse R n (times n A B) (times n B′ A′)
+  pub inverse-product : (n : ℕ) (A A′ B B′ : ℕ → Row F) → Inverses R n A A′ → Inverses R n B B′ → Inverses R n (times n A B) (times n B′ A′)
   inverse-product n A A′ B B′ a b = record {
     left-polynomial = product-polynomial n A B (a .left-polynomial) (b .left-polynomial);
     right-polynomial = product-polynomial n B′ A′ (b .right-polynomial) (a .right-polynomial);

@@ -9,7 +9,9 @@ use Rattle.theory_algebra.specs.Ring.{CommRing}
 use Rattle.theory_algebra.specs.Field.{Field}
 use Rattle.theory_algebra.specs.Matrix.{identity}
 use Rattle.theory_algebra.proofs.Cases.{case-le}
-use Rattle.theory_algebra.proofs.Series.{series, one-at, zero-at, mono-same, mono-other}
+use Rattle.theory_algebra.proofs.Series.{mono-same, mono-other}
+use Rattle.theory_rings.specs.Series.{series}
+use Rattle.theory_rings.proofs.Series.{one-at, zero-at}
 use Rattle.theory_algebra.proofs.Matrix.{identity-same, identity-other}
 use Rattle.theory_lattice.specs.Term.{Term, up, TermOrder}
 use Rattle.theory_lattice.specs.RowOrder.{RowOrder}

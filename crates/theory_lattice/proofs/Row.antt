@@ -8,8 +8,9 @@ use Rattle.theory_algebra.specs.Polynomial.{IsPolynomial}
 use Rattle.theory_algebra.specs.Matrix.{Same, product, identity}
 use Rattle.theory_algebra.proofs.Ring as Ring
 use Rattle.theory_algebra.proofs.Sum.{sum-nil, sum-suc, sum-null}
-use Rattle.theory_algebra.proofs.Series.{series, add-at, mul-at, zero-at}
-use Rattle.theory_algebra.proofs.Polynomial.{polynomial-product}
+use Rattle.theory_rings.specs.Series.{series}
+use Rattle.theory_rings.proofs.Series.{add-at, mul-at, zero-at}
+use Rattle.theory_rings.proofs.Polynomial.{polynomial-product}
 use Rattle.theory_algebra.proofs.Matrix.{same-refl, product-assoc, product-same, product-identity}
 use Rattle.theory_lattice.specs.Term.{Term, term}
 use Rattle.theory_lattice.specs.Row.{Row, coef, Null, plus, scale, comb}

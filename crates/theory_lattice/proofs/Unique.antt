@@ -6,8 +6,9 @@ use Rattle.theory_algebra.specs.Ring.{CommRing}
 use Rattle.theory_algebra.specs.Field.{Field}
 use Rattle.theory_algebra.specs.Matrix.{Same, product, identity}
 use Rattle.theory_algebra.proofs.Ring as Ring
-use Rattle.theory_algebra.proofs.Series.{series, add-at, neg-at}
-use Rattle.theory_algebra.proofs.Polynomial.{polynomial-add, polynomial-neg, polynomial-identity}
+use Rattle.theory_rings.specs.Series.{series}
+use Rattle.theory_rings.proofs.Series.{add-at, neg-at}
+use Rattle.theory_rings.proofs.Polynomial.{polynomial-add, polynomial-neg, polynomial-identity}
 use Rattle.theory_algebra.proofs.Matrix.{less-identity-product}
 use Rattle.theory_lattice.specs.Term.{Term, term, up, TermOrder}
 use Rattle.theory_lattice.specs.RowOrder.{RowOrder}

@@ -3,7 +3,7 @@ use Prim.Native.Nat.{ℕ, _<_}
 use Rattle.theory_algebra.specs.Ring.{CommRing}
 use Rattle.theory_algebra.specs.Polynomial.{IsPolynomial}
 use Rattle.theory_algebra.specs.Matrix.{Same, product, identity}
-use Rattle.theory_algebra.proofs.Series.{series}
+use Rattle.theory_rings.specs.Series.{series}
 use Rattle.theory_lattice.specs.Row.{Row, Bounded}
 
 module _ {F : Type 0} (R : CommRing F) where
@@ -16,7 +16,7 @@ module _ {F : Type 0} (R : CommRing F) where
   AllBounded n m size A = (i : ℕ) → i < n → Bounded R m size (A i)
 
   -- U and V′ are matrices of polynomials, n by n, and inverse to one another (`V` is a reserved word)
-  pub record Inverse (n : ℕ) (U V′ : ℕ → Row F) : Type 0 where
+  pub record Inverses (n : ℕ) (U V′ : ℕ → Row F) : Type 0 where
     pub left-polynomial : PolMat n n U
     pub right-polynomial : PolMat n n V′
     pub left-right : Same n n (product (series R) n U V′) (identity (series R))
@@ -24,7 +24,7 @@ module _ {F : Type 0} (R : CommRing F) where
 
   -- A with n rows and m columns was transformed to B: U A = B and V′ B = A
   pub record Transformed (n m : ℕ) (A B U V′ : ℕ → Row F) : Type 0 where
-    pub inverse : Inverse n U V′
+    pub inverse : Inverses n U V′
     pub forth : Same n m (product (series R) n U A) B
     pub back : Same n m (product (series R) n V′ B) A
 
@@ -33,5 +33,5 @@ module _ {F : Type 0} (R : CommRing F) where
   pub record LeftEquivalent (n m : ℕ) (A B : ℕ → Row F) : Type 0 where
     pub W : ℕ → Row F
     pub W′ : ℕ → Row F
-    pub inverse : Inverse n W W′
+    pub inverse : Inverses n W W′
     pub carries : Same n m (product (series R) n W A) B

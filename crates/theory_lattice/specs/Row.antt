@@ -4,7 +4,7 @@ use Prim.Native.Nat.{ℕ, _<_}
 use Rattle.theory_algebra.specs.Ring.{CommRing}
 use Rattle.theory_algebra.specs.Sum.{sum}
 use Rattle.theory_algebra.specs.Polynomial.{Below}
-use Rattle.theory_algebra.proofs.Series.{series}
+use Rattle.theory_rings.specs.Series.{series}
 use Rattle.theory_lattice.specs.Term.{Term}
 
 -- r c k is the coefficient at x^k in column c

@@ -6,3 +6,4 @@ pub mod Skip
 pub mod Grid
 pub mod Permutation
 pub mod First
+pub mod Place

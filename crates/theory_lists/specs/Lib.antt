@@ -4,3 +4,6 @@ pub mod Last
 pub mod Total
 pub mod Skip
 pub mod First
+pub mod Place
+pub mod Where
+pub mod Coefficients

@@ -5,9 +5,9 @@ use Prim.Native.Nat.{ℕ, _-_, _<_}
 use native.Mathlib.Omega.{arith}
 use Rattle.theory_algebra.specs.Field.{Field}
 use Rattle.theory_algebra.specs.Polynomial.{Below}
-use Rattle.theory_algebra.proofs.Polynomial.{polynomial-mono}
+use Rattle.theory_rings.proofs.Polynomial.{polynomial-mono}
 use Rattle.theory_lattice.specs.Row.{Row}
-use Rattle.theory_lattice.specs.PolynomialMatrix.{AllBounded, Transformed}
+use Rattle.theory_lattice.specs.PolynomialMatrix.{AllBounded}
 use Rattle.theory_lattice.proofs.Moves.{subtract-transformed}
 use Rattle.theory_lists.specs.Total.{total}
 use Rattle.theory_lists.proofs.Total.{total-same}
@@ -16,25 +16,25 @@ use Rattle.theory_reduction.specs.Pivot.{values, height}
 use Rattle.theory_reduction.specs.Pair.{NoPair}
 use Rattle.theory_reduction.specs.Step.{Carried}
 use Rattle.theory_reduction.proofs.Index.{height-some}
-use Rattle.theory_reduction.proofs.Degrees.{D, Narrow, narrow-carry}
+use Rattle.theory_reduction.proofs.Degrees.{narrow-carry}
+use Rattle.theory_reduction.specs.Narrow.{pivot-degree, Narrow}
 use Rattle.theory_popov.specs.Order.{order, ordered}
 use Rattle.theory_popov.specs.SecondKind.{Removal, excesses, remove}
 use Rattle.theory_popov.specs.Scaled.{scaled}
-use Rattle.theory_popov.proofs.Ascending.{Tidy}
+use Rattle.theory_popov.specs.Carries as Specs
+use Rattle.theory_popov.specs.Tidy.{Tidy}
 use Rattle.theory_popov.proofs.Ordering.{order-permutation}
 use Rattle.theory_popov.proofs.Moves.{permute-transformed, dilate-transformed}
 use Rattle.theory_popov.proofs.Scaling.{below-const, inverse-unit, divided-value}
 use Rattle.theory_popov.proofs.SecondStep.{k-some, i-fits, removed-row, values-kept}
 
 module _ {F : Type 0} (K : Field F) (n m size : ℕ) (A : ℕ → Row F) where
-  -- t was carried from A
-  pub record Carries (t : Carried F) : Type 0 where
-    pub transformed : Transformed (K .ring) n m A (t .R) (t .U) (t .V′)
-    pub narrow : Narrow K n m size A t
+  abbrev Carries : Carried F → Type 0
+  Carries = Specs.Carries K n m size A
 
   -- the bounds hold where rows come to other places or are multiplied by numbers, row i being row σ i before
   narrow-moved : (t u : Carried F) (σ : ℕ → ℕ) → ((i : ℕ) → i < n → σ i < n)
-      → ((i : ℕ) → i < n → D K n m size (u .R) i ≡ D K n m size (t .R) (σ i)) → total n (D K n m size (u .R)) ≡ total n (D K n m size (t .R))
+      → ((i : ℕ) → i < n → pivot-degree K n m size (u .R) i ≡ pivot-degree K n m size (t .R) (σ i)) → total n (pivot-degree K n m size (u .R)) ≡ total n (pivot-degree K n m size (t .R))
       → ((i j b : ℕ) → Below (K .ring) (t .U (σ i) j) b → Below (K .ring) (u .U i j) b)
       → ((i j b : ℕ) → Below (K .ring) (t .V′ i (σ j)) b → Below (K .ring) (u .V′ i j) b) → Narrow K n m size A t → Narrow K n m size A u
   narrow-moved t u σ fits same totals rows cols x = record {
@@ -47,7 +47,7 @@ module _ {F : Type 0} (K : Field F) (n m size : ℕ) (A : ℕ → Row F) where
     pub ordered-carries : NoPair n m (values K m size (t .R)) → Carries (ordered K n m size t)
     ordered-carries done = let p = order-permutation K n m size (t .R) b done in record {
       transformed = permute-transformed (K .ring) n m A (t .R) (t .U) (t .V′) p (x .transformed);
-      narrow = narrow-moved t (ordered K n m size t) (order K n m size (t .R)) (p .fits) (λ i _. refl) (total-permuted n (D K n m size (t .R)) p)
+      narrow = narrow-moved t (ordered K n m size t) (order K n m size (t .R)) (p .fits) (λ i _. refl) (total-permuted n (pivot-degree K n m size (t .R)) p)
           (λ i j b h. h) (λ i j b h. h) (x .narrow);
     }
 
@@ -59,7 +59,7 @@ module _ {F : Type 0} (K : Field F) (n m size : ℕ) (A : ℕ → Row F) where
           (λ i j b h. below-const K _ (t .U i j) b h) (λ i j b h. below-const K _ (t .V′ i j) b h) (x .narrow);
     }
       where
-        same : (i : ℕ) → i < n → D K n m size (scaled K m size t .R) i ≡ D K n m size (t .R) i
+        same : (i : ℕ) → i < n → pivot-degree K n m size (scaled K m size t .R) i ≡ pivot-degree K n m size (t .R) i
         same i li = ap (λ v. height m v - 1) (divided-value K m size (t .R i) (b i li))
 
   -- a step of the second kind

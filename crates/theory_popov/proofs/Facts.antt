@@ -17,10 +17,12 @@ use Rattle.theory_popov.specs.SecondRun.{second-kind, SecondRuns}
 use Rattle.theory_popov.specs.Scaled.{scaled}
 use Rattle.theory_popov.specs.PopovRun.{PopovRun}
 use Rattle.theory_popov.specs.PopovFacts.{PopovFacts}
-use Rattle.theory_popov.proofs.Ascending.{Tidy, ascending-rank}
+use Rattle.theory_popov.proofs.Ascending.{ascending-rank}
+use Rattle.theory_popov.specs.Tidy.{Tidy}
 use Rattle.theory_popov.proofs.Ordering.{ordered-tidy}
 use Rattle.theory_popov.proofs.SecondEnding.{second-unique, second-keep, second-reach, second-count}
-use Rattle.theory_popov.proofs.Carrying.{Carries, ordered-carries, scaled-carries, removed-carries}
+use Rattle.theory_popov.proofs.Carrying.{ordered-carries, scaled-carries, removed-carries}
+use Rattle.theory_popov.specs.Carries.{Carries}
 use Rattle.theory_popov.proofs.PopovForm.{scaled-tidy, popov-form}
 
 module _ {F : Type 0} (K : Field F) (n m size : ℕ) (A : ℕ → Row F) where

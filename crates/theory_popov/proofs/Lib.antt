@@ -5,6 +5,7 @@ pub mod Moves
 pub mod Excess
 pub mod Removing
 pub mod Load
+pub mod FindRemoval
 pub mod SecondStep
 pub mod SecondEnding
 pub mod Scaling

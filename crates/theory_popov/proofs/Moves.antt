@@ -4,11 +4,11 @@ use Prim.Native.Nat.{ℕ, _<_}
 use Rattle.theory_algebra.specs.Ring.{CommRing}
 use Rattle.theory_algebra.specs.Polynomial.{IsPolynomial}
 use Rattle.theory_algebra.specs.Matrix.{transpose, identity, permute, dilate}
-use Rattle.theory_algebra.proofs.Series.{series}
-use Rattle.theory_algebra.proofs.Polynomial.{polynomial-mul, polynomial-identity}
+use Rattle.theory_rings.specs.Series.{series}
+use Rattle.theory_rings.proofs.Polynomial.{polynomial-mul, polynomial-identity}
 use Rattle.theory_algebra.proofs.Elementary.{permute-product, product-permute, permute-inverse, dilate-product, product-dilate, dilate-inverse}
 use Rattle.theory_lattice.specs.Row.{Row}
-use Rattle.theory_lattice.specs.PolynomialMatrix.{Inverse, Transformed}
+use Rattle.theory_lattice.specs.PolynomialMatrix.{Inverses, Transformed}
 use Rattle.theory_lattice.proofs.PolynomialMatrix.{transformed-same}
 use Rattle.theory_lattice.proofs.Moves.{move}
 use Rattle.theory_lists.proofs.Permutation.{Permutation}
@@ -18,7 +18,7 @@ module _ {F : Type 0} (R : CommRing F) (n m : ℕ) (A B U V′ : ℕ → Row F) 
   S = series R
 
   -- row i is row σ i
-  permuter : {σ τ : ℕ → ℕ} → Permutation n σ τ → Inverse R n (permute σ (identity S)) (permute τ (identity S))
+  permuter : {σ τ : ℕ → ℕ} → Permutation n σ τ → Inverses R n (permute σ (identity S)) (permute τ (identity S))
   permuter {σ} {τ} p = record {
     left-polynomial = λ i j _ _. polynomial-identity R (σ i) j;
     right-polynomial = λ i j _ _. polynomial-identity R (τ i) j;
@@ -38,7 +38,7 @@ module _ {F : Type 0} (R : CommRing F) (n m : ℕ) (A B U V′ : ℕ → Row F) 
   -- row i is multiplied by u i, whose inverse is w i
   module _ (u w : ℕ → ℕ → F) (pu : (i : ℕ) → i < n → IsPolynomial R (u i)) (pw : (i : ℕ) → i < n → IsPolynomial R (w i))
       (units : (i : ℕ) → i < n → S .mul (u i) (w i) ≡ S .𝟙) where
-    dilater : Inverse R n (dilate S u (identity S)) (dilate S w (identity S))
+    dilater : Inverses R n (dilate S u (identity S)) (dilate S w (identity S))
     dilater = record {
       left-polynomial = λ i j li _. polynomial-mul R _ _ (pu i li) (polynomial-identity R i j);
       right-polynomial = λ i j li _. polynomial-mul R _ _ (pw i li) (polynomial-identity R i j);

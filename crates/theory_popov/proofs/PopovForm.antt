@@ -17,7 +17,8 @@ use Rattle.theory_reduction.proofs.WeakPopov.{weak-popov-iff}
 use Rattle.theory_popov.specs.SecondKind.{NoRemoval, pivot-of, excesses}
 use Rattle.theory_popov.specs.Scaled.{scaled}
 use Rattle.theory_popov.specs.PopovForm.{Before, PopovForm}
-use Rattle.theory_popov.proofs.Ascending.{Tidy, ascending-same}
+use Rattle.theory_popov.proofs.Ascending.{ascending-same}
+use Rattle.theory_popov.specs.Tidy.{Tidy}
 use Rattle.theory_popov.proofs.Scaling.{below-const, divided-bounded, divided-value, divided-monic}
 use Rattle.theory_popov.proofs.SecondStep.{small}
 

@@ -8,8 +8,9 @@ use Rattle.theory_algebra.specs.Field.{Field}
 use Rattle.theory_algebra.specs.Polynomial.{Below, Degree}
 use Rattle.theory_algebra.proofs.Ring as Ring
 use Rattle.theory_algebra.proofs.Cases.{case-le}
-use Rattle.theory_algebra.proofs.Series.{series, add-at}
-use Rattle.theory_algebra.proofs.Polynomial.{below-add, below-neg, below-mul-within}
+use Rattle.theory_rings.specs.Series.{series}
+use Rattle.theory_rings.proofs.Series.{add-at}
+use Rattle.theory_rings.proofs.Polynomial.{below-add, below-neg, below-mul-within}
 use Rattle.theory_lattice.specs.Term.{Term, TermOrder}
 use Rattle.theory_lattice.specs.Row.{Row, coef, Bounded, plus, scale}
 use Rattle.theory_lattice.specs.Lead.{Lead}

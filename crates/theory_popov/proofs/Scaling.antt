@@ -10,7 +10,8 @@ use Rattle.theory_algebra.specs.Series.{const}
 use Rattle.theory_algebra.specs.Polynomial.{Below}
 use Rattle.theory_algebra.proofs.Ring as Ring
 use Rattle.theory_algebra.proofs.Cases.{case-le}
-use Rattle.theory_algebra.proofs.Series.{series, one-at, const-mul-at, const-mul}
+use Rattle.theory_rings.specs.Series.{series}
+use Rattle.theory_rings.proofs.Series.{one-at, const-mul-at, const-mul}
 use Rattle.theory_lattice.specs.Term.{term}
 use Rattle.theory_lattice.specs.Row.{Row, coef, Bounded, scale}
 use Rattle.theory_lattice.specs.Lead.{Lead}
@@ -21,7 +22,7 @@ use Rattle.theory_reduction.specs.Pivot.{value}
 use Rattle.theory_reduction.specs.Step.{leading}
 use Rattle.theory_reduction.proofs.Pivot.{value-lead, value-null, null-value, lead-value}
 use Rattle.theory_popov.specs.SecondKind.{pivot-of}
-use Rattle.theory_popov.specs.Scaled.{where-some, divisor, inverse}
+use Rattle.theory_popov.specs.Scaled.{where-some, divisor, dividing}
 
 module _ {F : Type 0} (K : Field F) where
   infixl 70 _⊛_
@@ -33,19 +34,19 @@ module _ {F : Type 0} (K : Field F) where
 
   module _ (m size : ℕ) (r : Row F) (b : Bounded (K .ring) m size r) where
     abbrev divided : Row F
-    divided c = series (K .ring) .mul (const (K .ring) (inverse K m size r)) (r c)
+    divided c = series (K .ring) .mul (const (K .ring) (dividing K m size r)) (r c)
 
-    pub inverse-is : inverse K m size r ⊛ divisor K m size r ≡ 𝟙
+    pub inverse-is : dividing K m size r ⊛ divisor K m size r ≡ 𝟙
     inverse-is = go (value K m size r) (λ p. value-lead K m size r b p .top)
       where
         go : (v : ℕ) → (0 < v → leading K m size r ≢ 𝟘) → where-some K m size v (K .inv (leading K m size r)) ⊛ where-some K m size v (leading K m size r) ≡ 𝟙
         go zero ne = Ring.mul-one (K .ring) 𝟙
         go (suc v) ne = Ring.mul-comm (K .ring) _ _ ∙ K .mul-inv _ (ne (omega arith))
 
-    pub inverse-unit : series (K .ring) .mul (const (K .ring) (inverse K m size r)) (const (K .ring) (divisor K m size r)) ≡ series (K .ring) .𝟙
+    pub inverse-unit : series (K .ring) .mul (const (K .ring) (dividing K m size r)) (const (K .ring) (divisor K m size r)) ≡ series (K .ring) .𝟙
     inverse-unit = const-mul (K .ring) _ _ ∙ fun-ext (λ k. ap (λ c. const (K .ring) c k) inverse-is ∙ sym (one-at (K .ring) k))
 
-    inverse-some : inverse K m size r ≢ 𝟘
+    inverse-some : dividing K m size r ≢ 𝟘
     inverse-some z = K .nontrivial (sym inverse-is ∙ ap (λ c. c ⊛ divisor K m size r) z ∙ Ring.zero-mul (K .ring) _)
 
     pub divided-bounded : Bounded (K .ring) m size divided
@@ -66,7 +67,7 @@ module _ {F : Type 0} (K : Field F) where
     pub divided-monic : 0 < value K m size r → coef divided (pivot-of K m size r) ≡ 𝟙
     divided-monic p =
         const-mul-at (K .ring) _ (r (pivot-of K m size r .col)) (pivot-of K m size r .deg)
-        ∙ ap (λ x. inverse K m size r ⊛ x) (sym (own (value K m size r) p))
+        ∙ ap (λ x. dividing K m size r ⊛ x) (sym (own (value K m size r) p))
         ∙ inverse-is
       where
         own : (v : ℕ) → 0 < v → where-some K m size v (leading K m size r) ≡ leading K m size r

@@ -11,9 +11,10 @@ use Rattle.theory_reduction.specs.Step.{Carried, carry}
 use Rattle.theory_reduction.proofs.Process.{Ends, iterates-keep, iterate, iterates-count, iterates-unique}
 use Rattle.theory_popov.specs.SecondKind.{Highest, Removal, NoRemoval, excesses, remover, remove}
 use Rattle.theory_popov.specs.SecondRun.{second-kind, SecondRuns}
-use Rattle.theory_popov.proofs.Ascending.{Tidy}
+use Rattle.theory_popov.specs.Tidy.{Tidy}
 use Rattle.theory_popov.proofs.Excess.{excess-size}
 use Rattle.theory_popov.proofs.Load.{load, load-most}
+use Rattle.theory_popov.proofs.FindRemoval.{find-removal}
 use Rattle.theory_popov.proofs.SecondStep.{left, zero-excess, tidy-step, left-falls}
 
 -- the rows of the next step are determined
@@ -71,7 +72,7 @@ module _ {F : Type 0} (K : Field F) (n m size : ℕ) where
     second-keep I f q y i = iterates-keep steps (λ t. Fits t × I t) (λ t p z. (fits-step t p (z .0), f t p (z .0) (z .1))) q (y, i)
 
     unfoldable pub second-reach : (t : Carried F) → Fits t → Ends steps t
-    second-reach = iterate steps Fits fits-step (λ t. left K n m size (t .R)) falls
+    second-reach = iterate steps Fits fits-step (λ t. left K n m size (t .R)) falls (λ t. find-removal n (excesses K m size (t .R)))
 
     -- "The second is at most r(r-1)(d+1), and 0 for r = 0."
     pub second-count : {c : ℕ} {t u : Carried F} → SecondRuns K n m size c t u → Fits t → c ≤ r * ((r - 1) * size)

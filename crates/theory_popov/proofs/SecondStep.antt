@@ -8,7 +8,7 @@ use native.Mathlib.Nat as N
 use Rattle.theory_algebra.specs.Field.{Field}
 use Rattle.theory_algebra.specs.Polynomial.{Below}
 use Rattle.theory_algebra.proofs.Cases.{case-le}
-use Rattle.theory_algebra.proofs.Series.{series}
+use Rattle.theory_rings.specs.Series.{series}
 use Rattle.theory_algebra.proofs.Matrix.{setrow-same, setrow-other}
 use Rattle.theory_lattice.specs.Term.{term}
 use Rattle.theory_lattice.specs.Row.{Row, plus, scale}
@@ -21,7 +21,7 @@ use Rattle.theory_reduction.specs.Step.{subtract}
 use Rattle.theory_reduction.proofs.Index.{key-pivot, clash-of}
 use Rattle.theory_reduction.proofs.Pivot.{value-lead, value-null}
 use Rattle.theory_popov.specs.SecondKind.{Removal, pivot-of, excess, excesses, remover}
-use Rattle.theory_popov.proofs.Ascending.{Ascending, Tidy}
+use Rattle.theory_popov.specs.Tidy.{Ascending, Tidy}
 use Rattle.theory_popov.proofs.Excess.{excess-least, excess-below}
 use Rattle.theory_popov.proofs.Removing.{Removed, removed}
 use Rattle.theory_popov.proofs.Load.{load, load-falls}

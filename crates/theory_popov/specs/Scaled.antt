@@ -3,7 +3,7 @@ use Prim.Native.Nat.{ℕ, zero, suc}
 use Rattle.theory_algebra.specs.Field.{Field}
 use Rattle.theory_algebra.specs.Series.{const}
 use Rattle.theory_algebra.specs.Matrix.{transpose, dilate}
-use Rattle.theory_algebra.proofs.Series.{series}
+use Rattle.theory_rings.specs.Series.{series}
 use Rattle.theory_lattice.specs.Row.{Row}
 use Rattle.theory_reduction.specs.Pivot.{value}
 use Rattle.theory_reduction.specs.Step.{Carried, leading}
@@ -18,13 +18,13 @@ module _ {F : Type 0} (K : Field F) (m size : ℕ) where
   abbrev pub divisor : Row F → F
   divisor r = where-some (value K m size r) (leading K m size r)
 
-  abbrev pub inverse : Row F → F
-  inverse r = where-some (value K m size r) (K .inv (leading K m size r))
+  abbrev pub dividing : Row F → F
+  dividing r = where-some (value K m size r) (K .inv (leading K m size r))
 
   -- the rows of R and U are divided, and the columns of V are multiplied
   abbrev pub scaled : Carried F → Carried F
   scaled t = let S = series (K .ring) in record {
-    R = dilate S (λ i. const (K .ring) (inverse (t .R i))) (t .R);
-    U = dilate S (λ i. const (K .ring) (inverse (t .R i))) (t .U);
+    R = dilate S (λ i. const (K .ring) (dividing (t .R i))) (t .R);
+    U = dilate S (λ i. const (K .ring) (dividing (t .R i))) (t .U);
     V′ = transpose (dilate S (λ i. const (K .ring) (divisor (t .R i))) (transpose (t .V′)));
   }

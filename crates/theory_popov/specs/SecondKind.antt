@@ -34,7 +34,9 @@ module _ {F : Type 0} (K : Field F) (m size : ℕ) where
   abbrev pub pivot-of : Row F → Term
   pivot-of r = pivot m (value K m size r)
 
-  -- "the degree of row k in i's pivot column, less i's pivot degree", for the rows k and i: one more than it, and 0 where it is negative
+  -- "the degree of row k in i's pivot column, less i's pivot degree", for the rows k and i: one more than it, and 0 where it is negative.
+  -- Row i may not be a zero row, which has no pivot column; none is asked for, since zero rows stand last and a zero row k has no
+  -- excess over any (`zero-excess`).
   unfoldable pub excess : Row F → Row F → ℕ
   excess k i = top K size (k (pivot-of i .col)) - pivot-of i .deg
 

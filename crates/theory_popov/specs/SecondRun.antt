@@ -4,14 +4,12 @@ use Rattle.theory_algebra.specs.Field.{Field}
 use Rattle.theory_reduction.specs.Process.{Process, Iterates}
 use Rattle.theory_reduction.specs.Step.{Carried}
 use Rattle.theory_popov.specs.SecondKind.{Removal, NoRemoval, excesses, remove}
-use Rattle.theory_popov.specs.FindRemoval.{find-removal}
 
 module _ {F : Type 0} (K : Field F) (n m size : ℕ) where
   abbrev pub second-kind : Process (Carried F)
   second-kind = record {
     Next = λ t. Removal n (excesses K m size (t .R));
     Halt = λ t. NoRemoval n (excesses K m size (t .R));
-    find = λ t. find-removal n (excesses K m size (t .R));
     apply = remove K m size;
   }
 

@@ -7,7 +7,9 @@ use Rattle.theory_algebra.specs.Field.{Field}
 use Rattle.theory_algebra.specs.Series.{mono}
 use Rattle.theory_algebra.specs.Polynomial.{Degree}
 use Rattle.theory_algebra.proofs.Ring as Ring
-use Rattle.theory_algebra.proofs.Series.{series, mono-same, neg-at}
+use Rattle.theory_algebra.proofs.Series.{mono-same}
+use Rattle.theory_rings.specs.Series.{series}
+use Rattle.theory_rings.proofs.Series.{neg-at}
 use Rattle.theory_lattice.specs.Term.{Term, up, TermOrder}
 use Rattle.theory_lattice.specs.Row.{Row, coef, scale}
 use Rattle.theory_lattice.specs.Lead.{Lead}

@@ -9,8 +9,8 @@ use Rattle.theory_algebra.specs.Ring.{CommRing}
 use Rattle.theory_algebra.specs.Field.{Field}
 use Rattle.theory_algebra.specs.Polynomial.{Below}
 use Rattle.theory_algebra.specs.Matrix.{transpose, identity}
-use Rattle.theory_algebra.proofs.Series.{series}
-use Rattle.theory_algebra.proofs.Polynomial.{below-add, below-neg, below-mul-within}
+use Rattle.theory_rings.specs.Series.{series}
+use Rattle.theory_rings.proofs.Polynomial.{below-add, below-neg, below-mul-within}
 use Rattle.theory_algebra.proofs.Matrix.{setrow-same, setrow-other, identity-other}
 use Rattle.theory_lattice.specs.Row.{Row}
 use Rattle.theory_lattice.specs.PolynomialMatrix.{AllBounded}
@@ -19,6 +19,7 @@ use Rattle.theory_lists.specs.Total.{total}
 use Rattle.theory_reduction.specs.Pivot.{value, height}
 use Rattle.theory_reduction.specs.Step.{Carried, begin, factor, subtract, carry, advance}
 use Rattle.theory_reduction.specs.Run.{Runs}
+use Rattle.theory_reduction.specs.Narrow as Specs
 use Rattle.theory_lists.proofs.Total.{total-le, total-one, total-others, total-change}
 use Rattle.theory_reduction.proofs.Index.{height-pos, height-mono, height-bound, clash-second}
 use Rattle.theory_reduction.proofs.Pivot.{value-bound}
@@ -38,19 +39,14 @@ module _ {F : Type 0} (K : Field F) (n m size : ℕ) where
   abbrev S : CommRing (ℕ → F)
   S = series (K .ring)
 
-  -- "D⁺": the pivot degree of row i, and 0 for a zero row
-  abbrev pub D : (ℕ → Row F) → ℕ → ℕ
-  D M i = height m (value K m size (M i)) - 1
+  abbrev D : (ℕ → Row F) → ℕ → ℕ
+  D = Specs.pivot-degree K n m size
 
-  -- what the pivot degrees have lost together since A
-  abbrev pub spent-since : (ℕ → Row F) → Carried F → ℕ
-  spent-since A t = total n (D A) - total n (D (t .R))
+  abbrev spent-since : (ℕ → Row F) → Carried F → ℕ
+  spent-since = Specs.spent-since K n m size
 
-  -- what is known of the degrees while steps are taken: deg U_ij + D_j(A) ≤ D_i(R) + spent, deg V_ij + D_j(R) ≤ D_i(A)
-  pub record Narrow (A : ℕ → Row F) (t : Carried F) : Type 0 where
-    pub less : total n (D (t .R)) ≤ total n (D A)
-    pub u-bound : (i j : ℕ) → i < n → j < n → Below (K .ring) (t .U i j) (suc (D (t .R) i + spent-since A t) - D A j)
-    pub v-bound : (i j : ℕ) → i < n → j < n → Below (K .ring) (t .V′ i j) (suc (D A i) - D (t .R) j)
+  abbrev Narrow : (ℕ → Row F) → Carried F → Type 0
+  Narrow = Specs.Narrow K n m size
 
   pub degrees-most : (M : ℕ → Row F) → AllBounded (K .ring) n m size M → (i : ℕ) → i < n → D M i ≤ size - 1
   degrees-most M b i li = omega (arith, height-bound m size _ (value-bound K m size (M i) (b i li)))

@@ -1,16 +1,18 @@
 -- The reduction comes to an end, and its result and its count are determined.
 use mathlib.Core.Path.{_≡_, ap}
-use Prim.Native.Nat.{ℕ, _<_}
+use Prim.Native.Nat.{ℕ}
 use Rattle.theory_algebra.specs.Field.{Field}
 use Rattle.theory_lattice.specs.Row.{Row}
 use Rattle.theory_lattice.specs.PolynomialMatrix.{AllBounded}
 use Rattle.theory_reduction.specs.Pivot.{values}
 use Rattle.theory_reduction.specs.Pair.{Pair, NoPair, target}
 use Rattle.theory_reduction.specs.Step.{Carried, advance}
-use Rattle.theory_reduction.specs.Run.{advance-pair, reduction, Runs, steps}
+use Rattle.theory_reduction.specs.Process.{Once}
+use Rattle.theory_reduction.specs.Run.{advance-pair, reduction, Runs}
 use Rattle.theory_lists.specs.Total.{total}
 use Rattle.theory_lists.proofs.Total.{total-lt}
-use Rattle.theory_reduction.proofs.Process.{Ends, iterates-keep, iterate, iterates-repeated, iterates-first, iterates-unique}
+use Rattle.theory_reduction.proofs.Process.{Ends, iterates-keep, iterate, iterates-unique, once-unique}
+use Rattle.theory_reduction.proofs.FindPair.{find-pair}
 use Rattle.theory_reduction.proofs.Pair.{pair-exclusive, target-unique, target-rows}
 use Rattle.theory_reduction.proofs.Lowering.{Lowered, lowered, value-le}
 
@@ -39,6 +41,7 @@ module _ {F : Type 0} (K : Field F) (n m size : ℕ) where
   reach = iterate (reduction K n m size) Fits (λ t p b. pair-lowered t b p .bounded) (λ t. total n (v (t .R))) (λ t p b.
       let w = pair-lowered t b p in
       total-lt n _ _ _ (w .reducing .l-fits) (w .lower) (λ i _. value-le K n m size (t .R) _ _ w i))
+      (λ t. find-pair n m (v (t .R)))
 
   -- only one step applies, and none where the end is reached
   pub exclusive : (t : Carried F) → Pair n m (v (t .R)) → ¬ (NoPair n m (v (t .R)))
@@ -51,8 +54,6 @@ module _ {F : Type 0} (K : Field F) (n m size : ℕ) where
   pub runs-unique : {c d : ℕ} {t u w : Carried F} → Runs K n m size c t u → Runs K n m size d t w → (c ≡ d) × (u ≡ w)
   runs-unique = iterates-unique (reduction K n m size) exclusive determined
 
-  pub runs-steps : {c : ℕ} {t u : Carried F} → Runs K n m size c t u → steps K n m size c t ≡ u
-  runs-steps = iterates-repeated (reduction K n m size) exclusive determined
-
-  pub runs-first : {c : ℕ} {t u : Carried F} → Runs K n m size c t u → (j : ℕ) → j < c → ¬ (NoPair n m (v (steps K n m size j t .R)))
-  runs-first = iterates-first (reduction K n m size) exclusive determined
+  -- and so is a single step
+  pub once-determined : {c d : ℕ} {t u w : Carried F} → Once (reduction K n m size) c t u → Once (reduction K n m size) d t w → (c ≡ d) × (u ≡ w)
+  once-determined = once-unique (reduction K n m size) exclusive determined

@@ -1,5 +1,4 @@
 -- The facts of the reduction, for every matrix.
-use mathlib.Core.Path.{sym, _∙_, ap}
 use Prim.Native.Nat.{ℕ, _<_}
 use Rattle.theory_algebra.specs.Field.{Field}
 use Rattle.theory_lattice.specs.Row.{Row}
@@ -7,8 +6,7 @@ use Rattle.theory_lattice.specs.PolynomialMatrix.{AllBounded}
 use Rattle.theory_reduction.specs.Step.{Carried, begin}
 use Rattle.theory_reduction.specs.Run.{Runs}
 use Rattle.theory_reduction.specs.ReductionFacts.{ReductionFacts}
-use Rattle.theory_reduction.proofs.Ending.{reach, runs-steps, runs-first}
-use Rattle.theory_reduction.proofs.SingleStep.{steps-single}
+use Rattle.theory_reduction.proofs.Ending.{reach}
 use Rattle.theory_reduction.proofs.WeakPopov.{weak-popov-iff}
 use Rattle.theory_reduction.proofs.Counts.{count-state, count-rank}
 use Rattle.theory_reduction.proofs.Degrees.{runs-narrow, u-degrees, v-degrees}
@@ -24,9 +22,6 @@ module _ {F : Type 0} (K : Field F) (n m size : ℕ) (A : ℕ → Row F) (column
       let low = runs-lower K n m size A r b in
       let narrow = runs-narrow K n m size A r b in
       record {
-        result = runs-steps K n m size r;
-        single-steps = sym (steps-single K n m size count (begin (K .ring) A)) ∙ ap (λ u. u .R) (runs-steps K n m size r);
-        first = runs-first K n m size r;
         weak-popov = weak-popov-iff K n m size (t .R) (h .bounded) .0 (h .done);
         bounded = h .bounded;
         transformed = h .transformed;

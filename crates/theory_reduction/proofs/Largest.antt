@@ -10,8 +10,8 @@ use Rattle.theory_algebra.specs.Matrix.{product}
 use Rattle.theory_algebra.proofs.Ring as Ring
 use Rattle.theory_algebra.proofs.Cases.{case-le}
 use Rattle.theory_algebra.proofs.Sum.{sum-cong}
-use Rattle.theory_algebra.proofs.Series.{series}
-use Rattle.theory_algebra.proofs.Polynomial.{polynomial-zero}
+use Rattle.theory_rings.specs.Series.{series}
+use Rattle.theory_rings.proofs.Polynomial.{polynomial-zero}
 use Rattle.theory_lattice.specs.Term.{Term, TermOrder}
 use Rattle.theory_lattice.specs.Row.{Row, coef, comb}
 use Rattle.theory_lattice.specs.Lead.{Lead}

@@ -1,3 +1,5 @@
+pub mod Least
+pub mod FindPair
 pub mod Process
 pub mod Index
 pub mod Pivot
@@ -5,7 +7,6 @@ pub mod Pair
 pub mod Cancelling
 pub mod Lowering
 pub mod Ending
-pub mod SingleStep
 pub mod WeakPopov
 pub mod Counts
 pub mod Transforms

@@ -8,7 +8,9 @@ use Rattle.theory_algebra.specs.Ring.{CommRing}
 use Rattle.theory_algebra.specs.Field.{Field}
 use Rattle.theory_algebra.specs.Matrix.{identity}
 use Rattle.theory_algebra.proofs.Ring as Ring
-use Rattle.theory_algebra.proofs.Series.{series, mono-other, add-at, neg-at}
+use Rattle.theory_algebra.proofs.Series.{mono-other}
+use Rattle.theory_rings.specs.Series.{series}
+use Rattle.theory_rings.proofs.Series.{add-at, neg-at}
 use Rattle.theory_algebra.proofs.Matrix.{setrow-same, setrow-other}
 use Rattle.theory_lattice.specs.Term.{term}
 use Rattle.theory_lattice.specs.Row.{Row, comb}

@@ -6,8 +6,8 @@ use native.Mathlib.Omega.{arith}
 use native.Mathlib.Decide.{ℕ-discrete}
 use Rattle.theory_algebra.specs.Field.{Field}
 use Rattle.theory_algebra.specs.Polynomial.{Degree}
-use Rattle.theory_algebra.proofs.Series.{series}
-use Rattle.theory_algebra.proofs.Polynomial.{below-add}
+use Rattle.theory_rings.specs.Series.{series}
+use Rattle.theory_rings.proofs.Polynomial.{below-add}
 use Rattle.theory_algebra.proofs.Matrix.{setrow-same, setrow-other}
 use Rattle.theory_lattice.specs.Term.{term, up, TermOrder}
 use Rattle.theory_lattice.specs.Row.{Row, Bounded, plus, scale}

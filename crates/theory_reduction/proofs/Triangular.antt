@@ -8,7 +8,9 @@ use Rattle.theory_algebra.specs.Matrix.{identity}
 use Rattle.theory_algebra.proofs.Ring as Ring
 use Rattle.theory_algebra.proofs.Cases.{case-le}
 use Rattle.theory_algebra.proofs.Sum.{sum-cong, sum-single}
-use Rattle.theory_algebra.proofs.Series.{series, mono-same, zero-at, one-at}
+use Rattle.theory_algebra.proofs.Series.{mono-same}
+use Rattle.theory_rings.specs.Series.{series}
+use Rattle.theory_rings.proofs.Series.{zero-at, one-at}
 use Rattle.theory_algebra.proofs.Matrix.{identity-same, identity-other}
 use Rattle.theory_lattice.specs.Row.{Row, comb}
 use Rattle.theory_lattice.proofs.Upto.{extend}

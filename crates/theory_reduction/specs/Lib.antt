@@ -1,11 +1,10 @@
 pub mod Pivot
 pub mod WeakPopov
 pub mod Pair
-pub mod Least
-pub mod FindPair
 pub mod Step
 pub mod Process
 pub mod Run
 pub mod State
+pub mod Narrow
 pub mod Rank
 pub mod ReductionFacts

@@ -22,8 +22,9 @@ module _ {F : Type 0} (K : Field F) where
   top zero f = 0
   top (suc n) f = elim (K .dec (f n) (K .ring .𝟘)) [ yes _ ↦ top n f | no _ ↦ suc n ]
 
-  -- the value of a row: D m + I for the pivot index I and the pivot degree D, and 0 for a zero row.
-  -- The coefficients are looked through by degree and then by column, from the last one down.
+  -- the value of a row: D m + I for the pivot index I and the pivot degree D, and 0 for a zero row. The coefficients are looked through
+  -- by degree and then by column, from the last one down: the first that is not zero is the leading one of "the rightmost entry of
+  -- greatest degree", which is proved (`value-pivot`), as it is that only zero rows have the value 0 (`value-null`).
   unfoldable pub value : ℕ → ℕ → Row F → ℕ
   value m size r = top (size * m) (λ x. r (x % m) (x / m))
 

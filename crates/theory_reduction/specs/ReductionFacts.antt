@@ -1,5 +1,4 @@
 -- What is proved of the reduction of a matrix A of n rows and m columns, its polynomials having `size` = d + 1 places.
-use mathlib.Core.Path.{_≡_}
 use Prim.Native.Nat.{ℕ, suc, _+_, _-_, _*_, _≤_, _<_}
 use Rattle.theory_algebra.specs.Field.{Field}
 use Rattle.theory_algebra.specs.Polynomial.{Below}
@@ -7,19 +6,12 @@ use Rattle.theory_lattice.specs.Row.{Row}
 use Rattle.theory_lattice.specs.PolynomialMatrix.{AllBounded, Transformed}
 use Rattle.theory_reduction.specs.Pivot.{values}
 use Rattle.theory_reduction.specs.WeakPopov.{WeakPopov}
-use Rattle.theory_reduction.specs.Pair.{NoPair}
-use Rattle.theory_reduction.specs.Step.{Carried, begin}
-use Rattle.theory_reduction.specs.Process.{repeated}
-use Rattle.theory_reduction.specs.Run.{steps, step}
+use Rattle.theory_reduction.specs.Step.{Carried}
 use Rattle.theory_reduction.specs.State.{state}
 use Rattle.theory_reduction.specs.Rank.{Independent, IsRank, rank}
 
 -- t is reached from A after `count` steps
 pub record ReductionFacts {F : Type 0} (K : Field F) (n m size : ℕ) (A : ℕ → Row F) (count : ℕ) (t : Carried F) : Type 0 where
-  -- "The whole reduction is this step repeated until none applies. Its count is the number of steps so defined."
-  pub result : steps K n m size count (begin (K .ring) A) ≡ t
-  pub single-steps : repeated (step K n m size) count A ≡ t .R
-  pub first : (c : ℕ) → c < count → ¬ (NoPair n m (values K m size (steps K n m size c (begin (K .ring) A) .R)))
   pub weak-popov : WeakPopov (K .ring) n m (t .R)
   pub bounded : AllBounded (K .ring) n m size (t .R)
   -- U·A = R, V·R = A, U·V = V·U = 1

@@ -4,7 +4,7 @@ use Rattle.theory_algebra.specs.Ring.{CommRing}
 use Rattle.theory_algebra.specs.Field.{Field}
 use Rattle.theory_algebra.specs.Series.{mono}
 use Rattle.theory_algebra.specs.Matrix.{transpose, identity, addrow}
-use Rattle.theory_algebra.proofs.Series.{series}
+use Rattle.theory_rings.specs.Series.{series}
 use Rattle.theory_lattice.specs.Row.{Row, coef}
 use Rattle.theory_reduction.specs.Pivot.{value, pivot, height}
 
@@ -33,7 +33,7 @@ module _ {F : Type 0} (ring : CommRing F) where
   }
 
 module _ {F : Type 0} (K : Field F) (m size : ℕ) where
-  -- the leading coefficient of the pivot of r
+  -- the leading coefficient of the pivot of r; that of a zero row, which has no pivot, is read nowhere: the rows of a step have one
   abbrev pub leading : Row F → F
   leading r = coef r (pivot m (value K m size r))
 

@@ -6,7 +6,7 @@ use native.Mathlib.Omega.{arith}
 use native.Mathlib.Decide.{ℕ-discrete, decLt}
 use Rattle.theory_reduction.specs.Pivot.{index, Clash}
 use Rattle.theory_reduction.specs.Pair.{Pair, NoPair}
-use Rattle.theory_reduction.specs.Least.{Least, least}
+use Rattle.theory_reduction.proofs.Least.{Least, least}
 
 -- whether two rows clash
 unfoldable pub clash-dec : (m v w : ℕ) → Dec (Clash m v w)

@@ -4,18 +4,20 @@ use mathlib.Core.Logic.{_≢_, _⊎_, inl, inr}
 use Prim.Native.Nat.{ℕ, zero, suc, _+_, _-_, _≤_, _<_, zero-le}
 use native.Mathlib.Omega.{arith}
 use native.Mathlib.Decide.{ℕ-discrete}
 use Rattle.theory_algebra.specs.Ring.{CommRing}
 use Rattle.theory_algebra.specs.Field.{Field}
 use Rattle.theory_algebra.specs.Sum.{sum}
 use Rattle.theory_algebra.specs.Series.{mono}
 use Rattle.theory_algebra.specs.Polynomial.{Below, IsPolynomial, Degree}
 use Rattle.theory_algebra.specs.Matrix.{Mat, product, identity}
 use Rattle.theory_algebra.proofs.Ring as Ring
 use Rattle.theory_algebra.proofs.Field.{no-zero-divisor}
 use Rattle.theory_algebra.proofs.Cases.{case-le}
 use Rattle.theory_algebra.proofs.Sum.{sum-nil, sum-suc, sum-null, sum-single}
-use Rattle.theory_algebra.proofs.Series.{series, add-at, neg-at, zero-at, one-at, mul-at, mono-other}
+use Rattle.theory_algebra.proofs.Series.{mono-other}
+use Rattle.theory_rings.specs.Series.{series}
+use Rattle.theory_rings.proofs.Series.{add-at, neg-at, zero-at, one-at, mul-at}
 use Rattle.theory_algebra.proofs.Matrix.{identity-same, identity-other}
 
 module _ {F : Type 0} (R : CommRing F) where
   infixl 65 _⊞_

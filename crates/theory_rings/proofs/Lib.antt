@@ -1,0 +1,3 @@
+pub mod Series
+pub mod Polynomial
+pub mod PrimeField
