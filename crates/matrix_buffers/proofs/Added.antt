@@ -13,16 +13,19 @@ use Rattle.theory_algebra.specs.Residue.{Zp}
 use Rattle.theory_algebra.specs.Series.{mono}
 use Rattle.theory_algebra.proofs.Cases.{case-le}
 use Rattle.theory_algebra.proofs.Matrix.{setrow-same}
-use Rattle.theory_algebra.proofs.PrimeField.{zp-field, field-add, field-mul, field-neg, field-zero}
-use Rattle.theory_algebra.proofs.Series.{series, add-at, neg-mono, mono-mul-low, mono-mul-high}
+use Rattle.theory_rings.specs.PrimeField.{zp-field}
+use Rattle.theory_rings.proofs.PrimeField.{field-add, field-mul, field-neg, field-zero}
+use Rattle.theory_rings.specs.Series.{series}
+use Rattle.theory_rings.proofs.Series.{add-at, neg-mono, mono-mul-low, mono-mul-high}
 use Rattle.theory_lattice.specs.Row.{Row}
 use Rattle.theory_lattice.specs.PolynomialMatrix.{AllBounded}
-use Rattle.matrix_buffers.specs.Where.{whereTrue}
-use Rattle.matrix_buffers.specs.Place.{Layout}
-use Rattle.matrix_buffers.specs.Held.{Held}
+use Rattle.theory_lists.specs.Where.{whereTrue}
+use Rattle.theory_lists.specs.Place.{Layout}
+use Rattle.matrix_promises.specs.Held.{Held}
 use Rattle.matrix_buffers.specs.Added.{raised, CellsAdded, RowAdded, ColumnAdded}
-use Rattle.matrix_buffers.proofs.Place.{by-rows, turned}
-use Rattle.matrix_buffers.proofs.Held.{held-turned, held-turned-back}
+use Rattle.matrix_promises.specs.Layout.{by-rows}
+use Rattle.theory_lists.proofs.Place.{turned}
+use Rattle.matrix_promises.proofs.Held.{held-turned, held-turned-back}
 use Rattle.matrix_buffers.proofs.Written.{held-written}
 
 module _ (p : ℕ) (P : Prime p) where

@@ -10,12 +10,16 @@ use Rattle.theory_algebra.specs.Matrix.{identity}
 use Rattle.theory_algebra.specs.Prime.{Prime}
 use Rattle.theory_algebra.specs.Residue.{Zp}
 use Rattle.theory_algebra.proofs.Matrix.{identity-same, identity-other}
-use Rattle.theory_algebra.proofs.PrimeField.{zp-field, field-zero, field-one}
-use Rattle.theory_algebra.proofs.Series.{series, zero-at, one-at, mono-same}
+use Rattle.theory_rings.specs.PrimeField.{zp-field}
+use Rattle.theory_rings.proofs.PrimeField.{field-zero, field-one}
+use Rattle.theory_algebra.proofs.Series.{mono-same}
+use Rattle.theory_rings.specs.Series.{series}
+use Rattle.theory_rings.proofs.Series.{zero-at, one-at}
 use Rattle.theory_lattice.proofs.Coefficients.{below-identity}
-use Rattle.matrix_buffers.specs.Held.{Held}
+use Rattle.matrix_promises.specs.Held.{Held}
 use Rattle.matrix_buffers.specs.Diagonal.{Diagonal}
-use Rattle.matrix_buffers.proofs.Place.{spot-own, by-rows}
+use Rattle.matrix_promises.specs.Layout.{by-rows}
+use Rattle.theory_lists.proofs.Place.{spot-own}
 
 module _ (p : ℕ) (P : Prime p) (n w : ℕ) (some : 0 < w) where
   abbrev R : CommRing (Zp p)

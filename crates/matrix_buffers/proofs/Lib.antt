@@ -1,5 +1,3 @@
-pub mod Place
-pub mod Held
 pub mod Written
 pub mod Added
 pub mod Scaled
@@ -7,3 +5,4 @@ pub mod Exchanged
 pub mod Diagonal
 pub mod Bounds
 pub mod CellByCell
+pub mod Unique

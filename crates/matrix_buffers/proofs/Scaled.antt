@@ -8,14 +8,17 @@ use Rattle.theory_algebra.specs.Matrix.{transpose, scalerow}
 use Rattle.theory_algebra.specs.Prime.{Prime}
 use Rattle.theory_algebra.specs.Residue.{Zp}
 use Rattle.theory_algebra.specs.Series.{const}
-use Rattle.theory_algebra.proofs.PrimeField.{zp-field, field-mul}
-use Rattle.theory_algebra.proofs.Series.{series, const-mul-at}
+use Rattle.theory_rings.specs.PrimeField.{zp-field}
+use Rattle.theory_rings.proofs.PrimeField.{field-mul}
+use Rattle.theory_rings.specs.Series.{series}
+use Rattle.theory_rings.proofs.Series.{const-mul-at}
 use Rattle.theory_lattice.specs.Row.{Row}
-use Rattle.matrix_buffers.specs.Place.{Layout}
-use Rattle.matrix_buffers.specs.Held.{Held}
+use Rattle.theory_lists.specs.Place.{Layout}
+use Rattle.matrix_promises.specs.Held.{Held}
 use Rattle.matrix_buffers.specs.Scaled.{CellsScaled, RowScaled, ColumnScaled}
-use Rattle.matrix_buffers.proofs.Place.{by-rows, turned}
-use Rattle.matrix_buffers.proofs.Held.{held-turned, held-turned-back}
+use Rattle.matrix_promises.specs.Layout.{by-rows}
+use Rattle.theory_lists.proofs.Place.{turned}
+use Rattle.matrix_promises.proofs.Held.{held-turned, held-turned-back}
 use Rattle.matrix_buffers.proofs.Written.{held-written}
 
 module _ (p : ℕ) (P : Prime p) where

@@ -7,10 +7,10 @@ use Rattle.theory_algebra.specs.Matrix.{setrow}
 use Rattle.theory_algebra.specs.Residue.{Zp}
 use Rattle.theory_algebra.proofs.Matrix.{setrow-same, setrow-other}
 use Rattle.theory_lattice.specs.Row.{Row}
-use Rattle.matrix_buffers.specs.Place.{Layout}
-use Rattle.matrix_buffers.specs.Held.{Held}
+use Rattle.theory_lists.specs.Place.{Layout}
+use Rattle.matrix_promises.specs.Held.{Held}
 use Rattle.matrix_buffers.specs.Written.{CellsWritten}
-use Rattle.matrix_buffers.proofs.Place.{own-row}
+use Rattle.theory_lists.proofs.Place.{own-row}
 
 module _ (p : ℕ) {n m w : ℕ} (L : Layout n m w) where
   pub held-written : {new : ℕ → ℕ → ℕ} {b b′ : List ℕ} {M : ℕ → Row (Zp p)} (l : ℕ) (r : Row (Zp p)) → l < n

@@ -3,8 +3,8 @@ use mathlib.Core.List.{List}
 use Prim.Native.Nat.{ℕ, _+_, _*_, _-_, _%_}
 use lib.ListN.{getD}
 use lib.Dec.{leb}
-use Rattle.matrix_buffers.specs.Place.{spot}
-use Rattle.matrix_buffers.specs.Where.{whereTrue}
+use Rattle.theory_lists.specs.Place.{spot}
+use Rattle.theory_lists.specs.Where.{whereTrue}
 use Rattle.matrix_buffers.specs.Written.{CellsWritten}
 
 -- the coefficient at degree t of x^e times f

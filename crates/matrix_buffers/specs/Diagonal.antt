@@ -4,7 +4,7 @@ use mathlib.Core.Logic.{_≢_}
 use mathlib.Core.List.{List}
 use Prim.Native.Nat.{ℕ, _*_, _<_}
 use lib.ListN.{length, getD}
-use Rattle.matrix_buffers.specs.Place.{spot}
+use Rattle.theory_lists.specs.Place.{spot}
 
 -- b has the room of an n by n matrix, 1 as the constant term of the first `count` diagonal cells, and 0 at every other place
 pub record Ones (n w count : ℕ) (b : List ℕ) : Type 0 where

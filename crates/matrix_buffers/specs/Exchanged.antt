@@ -3,7 +3,7 @@ use mathlib.Core.Path.{_≡_}
 use mathlib.Core.List.{List}
 use Prim.Native.Nat.{ℕ, _+_, _<_}
 use lib.ListN.{length, getD}
-use Rattle.matrix_buffers.specs.Place.{spot, Outside}
+use Rattle.theory_lists.specs.Place.{spot, Outside}
 
 -- b became b′: each of `count` pairs of cells of w places changed places, and no other place was written.
 -- The cells of pair i have their coefficients of degree t at `one i t` and at `other i t`.

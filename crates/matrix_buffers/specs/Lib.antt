@@ -1,6 +1,3 @@
-pub mod Place
-pub mod Where
-pub mod Held
 pub mod Written
 pub mod Added
 pub mod Scaled

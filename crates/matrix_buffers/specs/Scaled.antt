@@ -2,7 +2,7 @@
 use mathlib.Core.List.{List}
 use Prim.Native.Nat.{ℕ, _+_, _*_, _%_}
 use lib.ListN.{getD}
-use Rattle.matrix_buffers.specs.Place.{spot}
+use Rattle.theory_lists.specs.Place.{spot}
 use Rattle.matrix_buffers.specs.Written.{CellsWritten}
 
 -- b became b′: each of `count` cells was multiplied by c, modulo p, and no other place was written.

@@ -3,7 +3,7 @@ use mathlib.Core.Path.{_≡_}
 use mathlib.Core.List.{List}
 use Prim.Native.Nat.{ℕ, _<_}
 use lib.ListN.{length, getD}
-use Rattle.matrix_buffers.specs.Place.{Outside}
+use Rattle.theory_lists.specs.Place.{Outside}
 
 -- b became b′: `count` cells of w places were written, cell i at `at i t` with the coefficient `new i t` of degree t, and no other place
 pub record CellsWritten (w count : ℕ) (at new : ℕ → ℕ → ℕ) (b b′ : List ℕ) : Type 0 where

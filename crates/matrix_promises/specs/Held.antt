@@ -6,8 +6,8 @@ use lib.ListN.{length, getD}
 use lib.Dec.{ltb}
 use Rattle.theory_algebra.specs.Residue.{Zp, of}
 use Rattle.theory_lattice.specs.Row.{Row}
-use Rattle.matrix_buffers.specs.Place.{Layout}
-use Rattle.matrix_buffers.specs.Where.{whereTrue}
+use Rattle.theory_lists.specs.Place.{Layout}
+use Rattle.theory_lists.specs.Where.{whereTrue}
 
 module _ {n m w : ℕ} (L : Layout n m w) (p : ℕ) where
   -- l holds the n rows and m columns of M: the number of every coefficient of degree below w stands at its place, and M has

@@ -11,14 +11,15 @@ use Rattle.theory_algebra.specs.Matrix.{Same, transpose}
 use Rattle.theory_algebra.specs.Prime.{Prime}
 use Rattle.theory_algebra.specs.Residue.{Zp}
 use Rattle.theory_algebra.proofs.Cases.{case-le}
-use Rattle.theory_algebra.proofs.PrimeField.{zp-field, field-zero}
+use Rattle.theory_rings.specs.PrimeField.{zp-field}
+use Rattle.theory_rings.proofs.PrimeField.{field-zero}
 use Rattle.theory_algebra.proofs.Residue.{zp-path}
 use Rattle.theory_lattice.specs.Row.{Row}
 use Rattle.theory_lattice.specs.PolynomialMatrix.{AllBounded}
-use Rattle.poly.specs.Polynomial.{Coefficients}
-use Rattle.matrix_buffers.specs.Place.{Hit, Layout}
-use Rattle.matrix_buffers.specs.Held.{Held, matrixOf}
-use Rattle.matrix_buffers.proofs.Place.{turned}
+use Rattle.theory_lists.specs.Coefficients.{Coefficients}
+use Rattle.theory_lists.specs.Place.{Hit, Layout}
+use Rattle.matrix_promises.specs.Held.{Held, matrixOf}
+use Rattle.theory_lists.proofs.Place.{turned}
 
 module _ {n m w : ℕ} (L : Layout n m w) (p : ℕ) where
   -- what stands at a place is the coefficient that has the place

@@ -1,0 +1,5 @@
+pub mod Held
+pub mod Tables
+pub mod Alone
+pub mod Unique
+pub mod Demands

@@ -1,0 +1,14 @@
+pub mod Layout
+pub mod Held
+pub mod Holding
+pub mod Reduced
+pub mod RowList
+pub mod SteppedOnce
+pub mod Popov
+pub mod Determinant
+pub mod Answering
+pub mod Refused
+pub mod Service
+pub mod Services
+pub mod Facts
+pub mod Demands
