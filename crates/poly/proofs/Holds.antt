@@ -12,13 +12,16 @@ use Rattle.theory_algebra.specs.Field.{Field}
 use Rattle.theory_algebra.specs.Polynomial.{Degree}
 use Rattle.theory_algebra.specs.Prime.{Prime}
 use Rattle.theory_algebra.specs.Residue.{Zp, of}
-use Rattle.theory_algebra.proofs.PrimeField.{zp-field, field-zero}
+use Rattle.theory_rings.specs.PrimeField.{zp-field}
+use Rattle.theory_rings.proofs.PrimeField.{field-zero}
 use Rattle.theory_algebra.proofs.Residue.{zp-path}
-use Rattle.theory_algebra.proofs.Series.{series, zero-at}
+use Rattle.theory_rings.specs.Series.{series}
+use Rattle.theory_rings.proofs.Series.{zero-at}
 use Rattle.theory_lists.proofs.Change.{getD-past}
 use Rattle.theory_lists.proofs.Last.{IsLast, last-is}
 use Rattle.poly.proofs.Ending.{ends-height}
-use Rattle.poly.specs.Polynomial.{Coefficients, usedPlaces, degreeOf, leadingOf, SamePolynomial}
+use Rattle.poly.specs.Polynomial.{usedPlaces, degreeOf, leadingOf, SamePolynomial}
+use Rattle.theory_lists.specs.Coefficients.{Coefficients}
 use Rattle.poly.specs.Holds.{Holds}
 
 -- every list of coefficients holds a polynomial

@@ -1,14 +1,10 @@
 -- Polynomials as lists of their coefficients, constant term first, all places present.
-use Prim.Native.Nat.{ℕ, _-_, _<_}
+use Prim.Native.Nat.{ℕ, _-_}
 use mathlib.Core.Path.{_≡_}
 use mathlib.Core.List.{List}
 use lib.IntN.{ℤ, pos, predℤ}
 use lib.ListN.{length, getD}
 use Rattle.theory_lists.specs.Last.{lastNonzero}
-
--- "Coefficients are 16-bit numbers below p."
-pub record Coefficients (p : ℕ) (l : List ℕ) : Type 0 where
-  pub below : (i : ℕ) → i < length l → getD l i 0 < p
 
 -- the number of places up to the last coefficient that is not zero: one more than the degree, and 0 for the zero polynomial
 abbrev pub usedPlaces : List ℕ → ℕ

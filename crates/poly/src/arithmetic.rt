@@ -1,10 +1,10 @@
 // Arithmetic of polynomials in slices: what changes places or fills them. All places stay, zeros at either end too.
 ghost use mathlib.Core.Path.{_≡_};
-ghost use Prim.Native.Nat.{_+_, _*_, _-_, _%_, _<_, _≤_};
+ghost use Prim.Native.Nat.{_*_, _-_, _<_, _≤_};
 ghost use lib.ListN.{length};
 ghost use Rattle.theory_lists.specs.Change.{imap};
 ghost use Rattle.poly.specs.residues.Modulus.{Ready};
-ghost use Rattle.poly.specs.arithmetic.Operations.{plusTimes, AddAsked, plusMultiple, MultipleAsked, productAt, productOf, ProductAsked, scaledBy, zeros};
+ghost use Rattle.poly.specs.arithmetic.Operations.{plusTimes, AddAsked, plusTerm, TermAsked, plusMultiple, MultipleAsked, productAt, productOf, ProductAsked, scaledBy, zeros};
 use crate::polynomial;
 use crate::residues::Modulus;
 use crate::residues::Residue;
@@ -16,18 +16,19 @@ fn add_scaled(a: &mut [u16], b: &[u16], c: Residue, md: Modulus)
 {
     let mut i = 0;
     while i < a.len() {
-        a[i] = plus_product(a[i], c.0, b[i], md);
+        a[i] = Residue::held(a[i])
+            .plus_product(c, Residue::held(b[i]), md)
+            .number();
         i += 1;
     }
 }
 
-// x plus c times y: the sum fits 32 bits.
-fn plus_product(x: u16, c: u16, y: u16, md: Modulus) -> u16
-    requires { ⌜ Ready (md .p) (md .reciprocal) ⌝ }
-    requires { ⌜ (c < md .p) × (y < md .p) ⌝ }
-    ensures { λ r. ⌜ r ≡ (x + c * y) % md .p ⌝ }
+// a with c times y added at place i: one term of a multiple, where what is added stands in the same buffer and goes by value.
+pub fn add_at(a: &mut [u16], i: usize, y: Residue, c: Residue, md: Modulus)
+    requires { ⌜ TermAsked (md .p) (md .reciprocal) (c .0) (y .0) i (now a) ⌝ }
+    ensures { λ _. ⌜ now (a .exit) ≡ plusTerm (md .p) (c .0) (y .0) i (now (a .entry)) ⌝ }
 {
-    md.remainder((x as u32) + (c as u32) * (y as u32))
+    a[i] = Residue::held(a[i]).plus_product(c, y, md).number();
 }
 
 // a plus c·x^e times b, in a's places. The terms of b up to the last that is not zero all fit, by the contract.
@@ -52,7 +53,7 @@ fn excess(a: usize, b: usize) -> usize
 }
 
 // The sum of a_i·b_(k-i), over the places that both have.
-fn product_at(a: &[u16], b: &[u16], k: usize) -> u64
+fn sum_at(a: &[u16], b: &[u16], k: usize) -> u64
     requires { ⌜ (length (now a) ≤ 4294967296) × (k < 9223372036854775808) ⌝ }
     ensures { λ r. ⌜ r ≡ productAt (now (a .entry)) (now (b .entry)) k ⌝ }
 {
@@ -78,10 +79,9 @@ pub fn product(a: &[u16], b: &[u16], out: &mut [u16], md: Modulus)
     requires { ⌜ ProductAsked (md .p) (md .reciprocal) (now a) (now b) (now out) ⌝ }
     ensures { λ _. ⌜ now (out .exit) ≡ productOf (md .p) (now (a .entry)) (now (b .entry)) (now (out .entry)) ⌝ }
 {
-    let p = md.p as u64;
     let mut k = 0;
     while k < out.len() {
-        out[k] = (product_at(a, b, k) % p) as u16;
+        out[k] = Residue::of_sum(sum_at(a, b, k), md).number();
         k += 1;
     }
 }
@@ -93,7 +93,7 @@ pub fn scale(a: &mut [u16], c: Residue, md: Modulus)
 {
     let mut i = 0;
     while i < a.len() {
-        a[i] = c.product(Residue(a[i]), md).0;
+        a[i] = c.product(Residue::held(a[i]), md).number();
         i += 1;
     }
 }
@@ -112,9 +112,10 @@ pub fn copy(from: &[u16], to: &mut [u16])
 pub fn clear(a: &mut [u16])
     ensures { λ _. ⌜ now (a .exit) ≡ zeros (now (a .entry)) ⌝ }
 {
+    let zero = Residue::ZERO.number();
     let mut i = 0;
     while i < a.len() {
-        a[i] = 0;
+        a[i] = zero;
         i += 1;
     }
 }

@@ -42,9 +42,10 @@ fn skip(a: &[u16]) -> usize
 pub fn used(a: &[u16]) -> usize
     ensures { λ r. ⌜ (r ≡ usedPlaces (now (a .entry))) × (r ≤ length (now (a .entry))) ⌝ }
 {
+    let zero = Residue::ZERO.number();
     let mut n = skip(a);
     while 0 < n {
-        if a[n - 1] != 0 {
+        if a[n - 1] != zero {
             return n;
         }
         n -= 1;
@@ -72,7 +73,7 @@ pub fn leading(a: &[u16]) -> Residue
     if n == 0 {
         return Residue::ZERO;
     }
-    Residue(a[n - 1])
+    Residue::held(a[n - 1])
 }
 
 // Whether the two are the same polynomial, whatever zeros stand behind.

@@ -4,10 +4,11 @@ ghost use mathlib.Core.Bool.{true};
 ghost use mathlib.Core.Logic.{_↔_};
 ghost use Prim.Native.Nat.{_+_, _*_, _-_, _%_, _<_};
 ghost use Rattle.theory_algebra.specs.Prime.{Prime};
-ghost use Rattle.poly.specs.residues.Modulus.{Accepted, InRange, Ready, Residues₂, Inverse};
+ghost use Rattle.poly.specs.residues.Modulus.{Ready, Residues₂, Inverse};
+ghost use Rattle.theory_algebra.specs.Modulus.{Accepted, InRange};
 
 // A number below the modulus.
-pub struct Residue(pub u16);
+pub struct Residue(pub(crate) u16);
 
 // A modulus with the reciprocal by which remainders are taken: two products in place of a division.
 pub struct Modulus {
@@ -38,7 +39,7 @@ impl Modulus {
     }
 
     // The remainder of x (Barrett): x * reciprocal / 2^32 is the quotient or one less.
-    pub(crate) fn remainder(self, x: u32) -> u16
+    fn remainder(self, x: u32) -> u16
         requires { ⌜ Ready (self .p) (self .reciprocal) ⌝ }
         ensures { λ r. ⌜ r ≡ x % self .p ⌝ }
     {
@@ -59,12 +60,35 @@ impl Residue {
 
     pub const LARGEST_MODULUS: u32 = 65521;
 
+    // The residue of a coefficient that stands in a buffer: "Coefficients are 16-bit numbers below p."
+    pub fn held(number: u16) -> Residue
+        ensures { λ r. ⌜ r .0 ≡ number ⌝ }
+    {
+        Residue(number)
+    }
+
+    // The number by which it is written into a buffer.
+    pub fn number(self) -> u16
+        ensures { λ x. ⌜ x ≡ self .0 ⌝ }
+    {
+        let Residue(x) = self;
+        x
+    }
+
     // The residue of any number.
     pub fn of(x: u32, md: Modulus) -> Residue
         requires { ⌜ Ready (md .p) (md .reciprocal) ⌝ }
         ensures { λ r. ⌜ r .0 ≡ x % md .p ⌝ }
     {
         Residue(md.remainder(x))
+    }
+
+    // The residue of a sum of products that may pass 32 bits, by a division.
+    pub(crate) fn of_sum(x: u64, md: Modulus) -> Residue
+        requires { ⌜ Ready (md .p) (md .reciprocal) ⌝ }
+        ensures { λ r. ⌜ r .0 ≡ x % md .p ⌝ }
+    {
+        Residue((x % (md.p as u64)) as u16)
     }
 
     pub fn sum(self, b: Residue, md: Modulus) -> Residue
@@ -97,6 +121,15 @@ impl Residue {
         ensures { λ r. ⌜ r .0 ≡ self .0 * b .0 % md .p ⌝ }
     {
         Residue(md.remainder((self.0 as u32) * (b.0 as u32)))
+    }
+
+    // The rule of one place: c times y is added, and the sum fits 32 bits.
+    pub(crate) fn plus_product(self, c: Residue, y: Residue, md: Modulus) -> Residue
+        requires { ⌜ Ready (md .p) (md .reciprocal) ⌝ }
+        requires { ⌜ Residues₂ (md .p) (c .0) (y .0) ⌝ }
+        ensures { λ r. ⌜ r .0 ≡ (self .0 + c .0 * y .0) % md .p ⌝ }
+    {
+        Residue(md.remainder((self.0 as u32) + (c.0 as u32) * (y.0 as u32)))
     }
 
     // By p = (p / a) * a + p % a: each turn goes from a to p % a by one division, and so on down to 1.

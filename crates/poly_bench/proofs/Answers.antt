@@ -4,7 +4,7 @@ use mathlib.Core.Bool.{true, false}
 use mathlib.Core.List.{List}
 use Prim.Native.Nat.{ℕ, _+_, _≤_}
 use lib.ListN.{length}
-use Rattle.poly.specs.residues.Modulus.{Accepted}
+use Rattle.theory_algebra.specs.Modulus.{Accepted}
 use Rattle.poly.specs.arithmetic.Operations.{productOf}
 use Rattle.theory_algebra.proofs.Flag.{true-false, says-yes, says-no}
 use Rattle.poly_bench.specs.Rounds.{repeated, Summed, Added, Multiplied}

@@ -1,2 +1,3 @@
 mod Repeat
 mod Answers
+pub mod Unique

@@ -5,7 +5,7 @@ use mathlib.Core.Bool.{Bool, true, false}
 use mathlib.Core.List.{List}
 use mathlib.Core.Logic.{_↔_}
 use lib.ListN.{length}
-use Rattle.poly.specs.residues.Modulus.{Accepted}
+use Rattle.theory_algebra.specs.Modulus.{Accepted}
 use Rattle.poly.specs.arithmetic.Operations.{plusMultiple, productOf, scaledBy}
 
 -- g applied n times

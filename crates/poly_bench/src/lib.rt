@@ -6,7 +6,7 @@ ghost use mathlib.Core.Path.{_≡_};
 ghost use Prim.Native.Nat.{_+_, _<_, _≤_};
 ghost use lib.ListN.{length};
 ghost use Rattle.poly.specs.residues.Modulus.{Ready};
-ghost use Rattle.poly.specs.Polynomial.{Coefficients};
+ghost use Rattle.theory_lists.specs.Coefficients.{Coefficients};
 ghost use Rattle.poly.specs.arithmetic.Operations.{plusMultiple, ProductAsked, productOf};
 ghost use Rattle.poly_bench.specs.Rounds.{repeated, Summed, Added, Multiplied};
 

@@ -8,8 +8,9 @@ use poly::arithmetic;
 use poly::polynomial;
 ghost use Prim.Native.Nat.{_<_, _≤_};
 ghost use Rattle.theory_algebra.specs.Prime.{Prime};
-ghost use Rattle.poly.specs.residues.Modulus.{Accepted, Ready};
-ghost use Rattle.poly.specs.Polynomial.{Coefficients};
+ghost use Rattle.poly.specs.residues.Modulus.{Ready};
+ghost use Rattle.theory_algebra.specs.Modulus.{Accepted};
+ghost use Rattle.theory_lists.specs.Coefficients.{Coefficients};
 
 fn say(label: &[u8], n: u64) {
     io::write_all(STDOUT_FILENO, label);
@@ -47,7 +48,7 @@ fn say_degree(a: &[u16]) {
     } else {
         say(b"degree ", d as u64);
     }
-    say(b" leading ", polynomial::leading(a).0 as u64);
+    say(b" leading ", polynomial::leading(a).number() as u64);
     end_line();
 }
 
@@ -61,12 +62,12 @@ fn say_residues(a: Residue, b: Residue, md: Modulus)
     let product = a.product(b, md);
     let difference = a.difference(b, md);
     let sum = a.sum(b, md);
-    say(b"residues ", a.0 as u64);
-    say(b" ", b.0 as u64);
-    say(b" sum ", sum.0 as u64);
-    say(b" difference ", difference.0 as u64);
-    say(b" product ", product.0 as u64);
-    say(b" inverse ", inverse.0 as u64);
+    say(b"residues ", a.number() as u64);
+    say(b" ", b.number() as u64);
+    say(b" sum ", sum.number() as u64);
+    say(b" difference ", difference.number() as u64);
+    say(b" product ", product.number() as u64);
+    say(b" inverse ", inverse.number() as u64);
     end_line();
 }
 
@@ -94,12 +95,14 @@ fn fill(a: &mut [u16], seed: u32, md: Modulus)
 
 // Of the zero polynomial, a constant and x^63, whose low zeros count.
 fn say_edges() {
-    let mut a = [0u16; 64];
+    let zero = Residue::ZERO.number();
+    let one = Residue::ONE.number();
+    let mut a = [zero; 64];
     say_degree(&a);
-    a[0] = 1;
+    a[0] = one;
     say_degree(&a);
-    a[0] = 0;
-    a[63] = 1;
+    a[0] = zero;
+    a[63] = one;
     say_degree(&a);
     say_polynomial(b"x^63:", &a);
 }
@@ -114,7 +117,7 @@ fn say_multiple(c: u32, e: usize, seed: u32, md: Modulus)
     fill(&mut b, seed + 1, md);
     let c = Residue::of(c, md);
     arithmetic::add_multiple(&mut a, &b, c, e, md);
-    say(b"factor ", c.0 as u64);
+    say(b"factor ", c.number() as u64);
     say(b" exponent ", e as u64);
     end_line();
     say_polynomial(b"sum:", &a);
@@ -164,7 +167,7 @@ fn say_all(p: u32)
     requires { ⌜ Accepted p ⌝ }
 {
     let md = Modulus::of(p);
-    let top = Residue((p - 1) as u16);
+    let top = Residue::of(p - 1, md);
     say_residues(Residue::ZERO, top, md);
     say_residues(top, Residue::ONE, md);
     say_residues(top, top, md);

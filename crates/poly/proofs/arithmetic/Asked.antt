@@ -8,7 +8,7 @@ use lib.ListN.{length}
 use Rattle.theory_lists.specs.Change.{imap}
 use Rattle.theory_lists.proofs.Change.{getD-past, length-imap, getD-imap}
 use Rattle.poly.specs.residues.Modulus.{Ready}
-use Rattle.poly.specs.Polynomial.{Coefficients}
+use Rattle.theory_lists.specs.Coefficients.{Coefficients}
 use Rattle.poly.specs.arithmetic.Operations.{shifted, plusMultiple, MultipleAsked, ProductAsked, scaledBy}
 use Rattle.poly.proofs.arithmetic.Places.{product-past}
 

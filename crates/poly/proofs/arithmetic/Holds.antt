@@ -12,8 +12,10 @@ use Rattle.theory_algebra.specs.Prime.{Prime}
 use Rattle.theory_algebra.specs.Residue.{Zp}
 use Rattle.theory_algebra.specs.Series.{mono, const}
 use Rattle.theory_algebra.specs.Sum.{sum}
-use Rattle.theory_algebra.proofs.PrimeField.{zp-field, field-add, field-mul, field-zero}
-use Rattle.theory_algebra.proofs.Series.{series, add-at, mul-at, zero-at, mono-mul-low, mono-mul-high, const-mul-at}
+use Rattle.theory_rings.specs.PrimeField.{zp-field}
+use Rattle.theory_rings.proofs.PrimeField.{field-add, field-mul, field-zero}
+use Rattle.theory_rings.specs.Series.{series}
+use Rattle.theory_rings.proofs.Series.{add-at, mul-at, zero-at, mono-mul-low, mono-mul-high, const-mul-at}
 use Rattle.theory_algebra.proofs.Sum.{sum-nil, sum-suc}
 use Rattle.theory_lists.specs.Total.{total}
 use Rattle.theory_lists.proofs.Change.{getD-imap-every}

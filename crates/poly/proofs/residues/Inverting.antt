@@ -4,7 +4,7 @@ use Prim.Native.Nat.{ℕ, _*_, _-_, _/_, _%_, _≤_, _<_}
 use native.Mathlib.Nat.{mul-assoc, mul-one, mul-add-mod-self-left, mod-eq-of-lt, mod-eq-sub-div-mul, mod-lt, pos-of-ne-zero}
 use native.Mathlib.Omega.{arith}
 use Rattle.theory_algebra.specs.Prime.{Prime}
-use Rattle.theory_algebra.proofs.PrimeField.{complement}
+use Rattle.theory_algebra.proofs.Residue.{complement}
 use Rattle.theory_algebra.proofs.Residue.{mul-mod-left, mul-mod-right}
 use Rattle.poly.proofs.residues.Width.{product-most}
 

@@ -1,6 +1,6 @@
 -- The moduli that are accepted are in range.
 use Prim.Native.Nat.{ℕ}
-use Rattle.poly.specs.residues.Modulus.{Accepted, InRange}
+use Rattle.theory_algebra.specs.Modulus.{Accepted, InRange}
 
 -- a modulus that was accepted may be made ready
 pub in-range : {p : ℕ} → Accepted p → InRange p

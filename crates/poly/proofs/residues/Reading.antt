@@ -5,7 +5,8 @@ use native.Mathlib.Nat.{add-mod-mod}
 use Rattle.theory_algebra.specs.Field.{Field}
 use Rattle.theory_algebra.specs.Prime.{Prime}
 use Rattle.theory_algebra.specs.Residue.{Zp}
-use Rattle.theory_algebra.proofs.PrimeField.{zp-field, field-add, field-mul, field-neg, field-one}
+use Rattle.theory_rings.specs.PrimeField.{zp-field}
+use Rattle.theory_rings.proofs.PrimeField.{field-add, field-mul, field-neg, field-one}
 use Rattle.theory_algebra.proofs.Residue.{zp-path}
 use Rattle.poly.specs.residues.Modulus.{Inverse}
 

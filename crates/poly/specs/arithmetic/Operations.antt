@@ -3,12 +3,12 @@ use Prim.Native.Nat.{ℕ, suc, _+_, _*_, _-_, _%_, _<_, _≤_}
 use mathlib.Core.Path.{_≡_}
 use mathlib.Core.List.{List}
 use mathlib.Core.Bool.{Bool, true, false}
-use lib.ListN.{length, getD}
+use lib.ListN.{length, getD, set}
 use lib.Dec.{leb}
 use Rattle.theory_lists.specs.Change.{imap}
 use Rattle.theory_lists.specs.Total.{total}
 use Rattle.poly.specs.residues.Modulus.{Ready}
-use Rattle.poly.specs.Polynomial.{Coefficients}
+use Rattle.theory_lists.specs.Coefficients.{Coefficients}
 
 -- the coefficient of x^e times b at degree i
 abbrev pub shiftedBy : Bool → ℕ → List ℕ → ℕ → ℕ
@@ -40,6 +40,17 @@ pub record AddAsked (p reciprocal c : ℕ) (a b : List ℕ) : Type 0 where
   pub factor : c < p
   pub same : length a ≡ length b
   pub source : Coefficients p b
+
+-- a with c times y added at place i, modulo p
+unfoldable pub plusTerm : ℕ → ℕ → ℕ → ℕ → List ℕ → List ℕ
+plusTerm p c y i a = set a i ((getD a i 0 + c * y) % p)
+
+-- what the sum of one place asks
+pub record TermAsked (p reciprocal c y i : ℕ) (a : List ℕ) : Type 0 where
+  pub ready : Ready p reciprocal
+  pub factor : c < p
+  pub term : y < p
+  pub inside : i < length a
 
 -- the coefficient of a times b at degree k: the sum of a_i · b_(k-i)
 unfoldable pub productAt : List ℕ → List ℕ → ℕ → ℕ

@@ -1,21 +1,7 @@
 -- Moduli and residues, as numbers.
-use Prim.Native.Nat.{ℕ, _*_, _/_, _%_, _<_, _≤_}
+use Prim.Native.Nat.{ℕ, _*_, _/_, _%_, _<_}
 use mathlib.Core.Path.{_≡_}
-use Rattle.theory_algebra.specs.Prime.{Prime}
-
--- "A residue has … its largest modulus 65,521 given once."
-abbrev pub largest : ℕ
-largest = 65521
-
--- a number that residues may be taken by: from 2 up to the largest modulus
-pub record InRange (p : ℕ) : Type 0 where
-  pub two : 2 ≤ p
-  pub most : p ≤ largest
-
--- a modulus that is taken: "primes 2 to 65,521"
-pub record Accepted (p : ℕ) : Type 0 where
-  pub prime : Prime p
-  pub most : p ≤ largest
+use Rattle.theory_algebra.specs.Modulus.{InRange}
 
 -- a modulus with its reciprocal, the whole part of 2^32 / p
 pub record Ready (p reciprocal : ℕ) : Type 0 where

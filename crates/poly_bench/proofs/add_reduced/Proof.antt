@@ -3,7 +3,7 @@ use borrow.Author.Needs.{needs}
 use mathlib.Core.Path.{sym, subst}
 use Prim.Native.Nat.{_<_}
 use native.Mathlib.Nat.{mod-lt}
-use Rattle.poly.specs.Polynomial.{Coefficients}
+use Rattle.theory_lists.specs.Coefficients.{Coefficients}
 use Rattle.poly.proofs.arithmetic.Asked.{scaled-coefficients}
 use Rattle.poly_bench.proofs.add_reduced.Statement.{statement}
 use Rattle.poly_bench.proofs.add_reduced.Tie as tie

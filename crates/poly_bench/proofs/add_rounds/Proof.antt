@@ -3,7 +3,7 @@ use native.Mathlib.Omega.{arith}
 use mathlib.Core.Path.{_≡_, refl, sym, _∙_}
 use Prim.Native.Nat.{_≤_, _-_}
 use lib.ListN.{length}
-use Rattle.poly.specs.Polynomial.{Coefficients}
+use Rattle.theory_lists.specs.Coefficients.{Coefficients}
 use Rattle.poly.specs.arithmetic.Operations.{plusMultiple}
 use Rattle.poly.proofs.arithmetic.Asked.{sum-coefficients, with-room}
 use Rattle.poly_bench.specs.Rounds.{repeated}
@@ -11,6 +11,7 @@ use Rattle.poly_bench.proofs.Repeat.{repeated-none, repeated-more, repe
 use Rattle.poly_bench.proofs.add_rounds.Statement.{statement}
 use Rattle.poly_bench.proofs.add_rounds.Tie as tie
 
+-- The sum has been made i times, and the places are residues. The rounds that are left fall.
 abbrev Inv-loop : tie.InvT-loop
 Inv-loop a₀ b c e md rounds i₀ a i = (i ≤ rounds) × (length a ≡ length a₀) × Coefficients (md .p) a × (a ≡ repeated i (plusMultiple (md .p) (c .0) e b) a₀)
 

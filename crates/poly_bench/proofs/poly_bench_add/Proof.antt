@@ -3,7 +3,7 @@ use borrow.Author.Needs.{needs}
 use borrow.Author.Tests.{not-true, not-false}
 use Rattle.theory_algebra.proofs.Flag.{denied}
 use Rattle.poly_bench.proofs.Answers.{add-refused, add-done}
-use Rattle.poly.specs.residues.Modulus.{Accepted}
+use Rattle.theory_algebra.specs.Modulus.{Accepted}
 use Rattle.poly.proofs.residues.Range.{in-range}
 use Rattle.poly_bench.proofs.poly_bench_add.Statement.{statement}
 use Rattle.poly_bench.proofs.poly_bench_add.Tie as tie

@@ -9,6 +9,7 @@ use Rattle.poly_bench.proofs.Repeat.{repeated-none, repeated-more, repe
 use Rattle.poly_bench.proofs.product_rounds.Statement.{statement}
 use Rattle.poly_bench.proofs.product_rounds.Tie as tie
 
+-- The product has been written i times, or the places are as they were. The rounds that are left fall.
 abbrev Inv-loop : tie.InvT-loop
 Inv-loop a b out₀ md rounds i₀ out i = (i ≤ rounds) × (length out ≡ length out₀) × (out ≡ repeated i (productOf (md .p) a b) out₀)
 

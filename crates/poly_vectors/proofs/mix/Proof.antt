@@ -6,6 +6,7 @@ use lib.ListN.{length}
 use Rattle.poly_vectors.proofs.mix.Statement.{statement}
 use Rattle.poly_vectors.proofs.mix.Tie as tie
 
+-- The number written next fits 16 bits. The places that are left fall.
 abbrev Inv-loop : tie.InvT-loop
 Inv-loop a₀ seed x₀ i₀ a x i = (i ≤ length a₀) × (x < 65536) × (length a ≡ length a₀)
 

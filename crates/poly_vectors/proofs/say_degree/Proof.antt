@@ -27,6 +27,9 @@ slice-aggregate-say-2 c = search needs
 leading-requires : tie.Need-leading-requires
 leading-requires c κs = search needs
 
+number-requires : tie.Need-number-requires
+number-requires c κs = search needs
+
 cast-say-2 : tie.Need-cast-say-2
 cast-say-2 c = search needs
 
@@ -51,6 +54,7 @@ say-degree-spec =
     say-requires
     slice-aggregate-say-2
     leading-requires
+    number-requires
     cast-say-2
     say-requires-2
     end-line-requires

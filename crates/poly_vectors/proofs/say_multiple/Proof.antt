@@ -41,6 +41,9 @@ add-multiple-requires c κs =
 slice-aggregate-say : tie.Need-slice-aggregate-say
 slice-aggregate-say c = search needs
 
+number-requires : tie.Need-number-requires
+number-requires c κs = search needs
+
 cast-say : tie.Need-cast-say
 cast-say c = search needs
 
@@ -88,6 +91,7 @@ say-multiple-spec =
     slice-aggregate-add-multiple-2
     add-multiple-requires
     slice-aggregate-say
+    number-requires
     cast-say
     say-requires
     slice-aggregate-say-2

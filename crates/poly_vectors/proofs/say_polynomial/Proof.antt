@@ -6,6 +6,7 @@ use lib.ListN.{length}
 use Rattle.poly_vectors.proofs.say_polynomial.Statement.{statement}
 use Rattle.poly_vectors.proofs.say_polynomial.Tie as tie
 
+-- The index stays within the places. The places that are left fall.
 abbrev Inv-loop : tie.InvT-loop
 Inv-loop label a i₀ t4 i = (i ≤ length a) × (length t4 ≡ 1)
 

@@ -7,6 +7,7 @@ use Rattle.theory_lists.proofs.Change.{imap-copy, Changing, changing-start, cha
 use Rattle.poly.proofs.arithmetic.copy.Statement.{statement}
 use Rattle.poly.proofs.arithmetic.copy.Tie as tie
 
+-- The places before i are copied, and those from i on are as they were. The places that are left fall.
 abbrev Inv-loop : tie.InvT-loop
 Inv-loop from to₀ i₀ to i = Changing (λ j x. getD from j 0) to₀ to i
 

@@ -1,39 +1,33 @@
 use borrow.Author.Needs.{needs}
 use native.Mathlib.Omega.{arith}
-use mathlib.Core.Path.{ap}
-use Prim.Native.Nat.{ℕ, _-_, _%_, _<_}
+use mathlib.Core.Path.{ap, _∙_}
+use Prim.Native.Nat.{ℕ, _-_, _%_}
 use lib.ListN.{length}
 use Rattle.theory_lists.proofs.Change.{Changing, changing-start, changing-turn, changing-end}
 use Rattle.poly.specs.arithmetic.Operations.{productAt, productOf}
-use native.Mathlib.Nat.{mod-lt}
 use Rattle.poly.proofs.arithmetic.product.Statement.{statement}
 use Rattle.poly.proofs.arithmetic.product.Tie as tie
 
+-- The places before k have their sums, and those from k on are as they were. The places that are left fall.
 abbrev Inv-loop : tie.InvT-loop
-Inv-loop a b out₀ p k₀ out k = Changing (λ j x. productAt a b j % p) out₀ out k
+Inv-loop a b out₀ md k₀ out k = Changing (λ j x. productAt a b j % md .p) out₀ out k
 
 abbrev μ-loop : tie.MeasureT-loop
-μ-loop a b out₀ p k₀ out k = length out₀ - k
-
-cast-p : tie.Need-cast-p Inv-loop μ-loop
-cast-p c = omega arith
+μ-loop a b out₀ md k₀ out k = length out₀ - k
 
 loop-holds : tie.Need-loop-holds Inv-loop μ-loop
 loop-holds c = changing-start _ _
 
-product-at-requires : tie.Need-product-at-requires Inv-loop μ-loop
-product-at-requires c κs =
+sum-at-requires : tie.Need-sum-at-requires Inv-loop μ-loop
+sum-at-requires c κs =
     let start : tie.Start Inv-loop μ-loop = search needs in
     (start .pre .short, omega (arith, start .good))
 
-rem-out : tie.Need-rem-out Inv-loop μ-loop
-rem-out c = omega arith
+of-sum-requires : tie.Need-of-sum-requires Inv-loop μ-loop
+of-sum-requires c κs = search needs
 
-cast-out : tie.Need-cast-out Inv-loop μ-loop
-cast-out c =
-    let start : tie.Start Inv-loop μ-loop = search needs in
-    let some : 0 < start .args .md .p = omega arith in
-    omega (arith, mod-lt (c .product-at .result) some)
+number-requires : tie.Need-number-requires Inv-loop μ-loop
+number-requires c κs = search needs
 
 mul-out : tie.Need-mul-out Inv-loop μ-loop
 mul-out c = omega arith
@@ -50,7 +44,12 @@ loop-less c = omega arith
 loop-again : tie.Need-loop-again Inv-loop μ-loop
 loop-again c =
     let start : tie.Start Inv-loop μ-loop = search needs in
-    changing-turn _ _ _ _ (c .before .before .loop .inv) _ (omega arith) (ap (λ (x : ℕ). x % start .args .md .p) (c .product-at .ensures))
+    let head : tie.At-loop Inv-loop μ-loop = search needs in
+    let sum : tie.After-sum-at Inv-loop μ-loop = search needs in
+    let reduced : tie.After-of-sum Inv-loop μ-loop = search needs in
+    let written : tie.After-number Inv-loop μ-loop = search needs in
+    changing-turn _ _ _ _ (head .loop .inv) _ (omega arith)
+    (written .number .ensures ∙ reduced .of-sum .ensures ∙ ap (λ (x : ℕ). x % start .args .md .p) (sum .sum-at .ensures))
 
 same-length : tie.Need-same-length Inv-loop μ-loop
 same-length c = search needs
@@ -65,11 +64,10 @@ product-spec =
     (tie.spec
     Inv-loop
     μ-loop
-    cast-p
     loop-holds
-    product-at-requires
-    rem-out
-    cast-out
+    sum-at-requires
+    of-sum-requires
+    number-requires
     mul-out
     slice-write-out
     add-k

@@ -6,6 +6,7 @@ use Rattle.poly.proofs.Ending.{Gathering, gathering-start, gathering-tu
 use Rattle.poly.proofs.polynomial.all_zero.Statement.{statement}
 use Rattle.poly.proofs.polynomial.all_zero.Tie as tie
 
+-- The bits gathered are 0 exactly where the places before i are zero. The places that are left fall.
 abbrev Inv-loop : tie.InvT-loop
 Inv-loop a bits₀ i₀ bits i = Gathering a bits i
 

@@ -8,6 +8,7 @@ use Rattle.poly.proofs.Ending.{same-height, Comparing, comparing-end}
 use Rattle.poly.proofs.polynomial.equal.Statement.{statement}
 use Rattle.poly.proofs.polynomial.equal.Tie as tie
 
+-- Both end at n, and their places before i are equal. The places that are left fall.
 abbrev Inv-loop : tie.InvT-loop
 Inv-loop a b n i₀ i = Comparing a b n i
 

@@ -13,18 +13,24 @@ used-requires c κs = search needs
 returns : tie.Need-returns
 returns c = sym (leading-none (c .before .before .before .args .a .now) (sym (c .before .used .ensures .0) ∙ c .if1 .taken))
 
-sub-t4 : tie.Need-sub-t4
-sub-t4 c = search needs
+sub-held : tie.Need-sub-held
+sub-held c = search needs
 
-mul-t5 : tie.Need-mul-t5
-mul-t5 c = omega arith
+mul-held : tie.Need-mul-held
+mul-held c = omega arith
 
-shared-slice-read-t7 : tie.Need-shared-slice-read-t7
-shared-slice-read-t7 c = omega arith
+shared-slice-read-held : tie.Need-shared-slice-read-held
+shared-slice-read-held c = omega arith
+
+held-requires : tie.Need-held-requires
+held-requires c κs = search needs
 
 returns-2 : tie.Need-returns-2
-returns-2 c = let start : tie.Start = search needs in ap (λ (n : ℕ). getD (start .args .a .now) (n - 1) 0) (c .before .before .used .ensures .0)
+returns-2 c =
+    let start : tie.Start = search needs in
+    let found : tie.After-used = search needs in
+    c .held .ensures ∙ ap (λ (n : ℕ). getD (start .args .a .now) (n - 1) 0) (found .used .ensures .0)
 
 pub leading-spec : {M : Type 1} → statement M
 leading-spec =
-    tie.close (tie.spec used-requires returns sub-t4 mul-t5 shared-slice-read-t7 returns-2)
+    tie.close (tie.spec used-requires returns sub-held mul-held shared-slice-read-held held-requires returns-2)

@@ -5,6 +5,7 @@ use Rattle.poly.proofs.Ending.{Ends, ends-start, ends-part}
 use Rattle.poly.proofs.polynomial.skip.Statement.{statement}
 use Rattle.poly.proofs.polynomial.skip.Tie as tie
 
+-- All that is not zero stands before n. The number n falls.
 abbrev Inv-loop : tie.InvT-loop
 Inv-loop a n₀ n = Ends a n
 

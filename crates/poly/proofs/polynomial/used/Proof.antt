@@ -1,16 +1,24 @@
 use borrow.Author.Needs.{needs}
 use native.Mathlib.Omega.{arith}
 use mathlib.Core.Path.{_≡_, sym, _∙_}
-use Prim.Native.Nat.{_-_}
+use mathlib.Core.Logic.{_≢_}
+use Prim.Native.Nat.{ℕ, _-_}
 use Rattle.poly.proofs.Ending.{Ends, ends-lower, ends-at}
 use Rattle.poly.proofs.polynomial.used.Statement.{statement}
 use Rattle.poly.proofs.polynomial.used.Tie as tie
 
+not-zero : {x z : ℕ} → z ≡ 0 → x ≢ z → x ≢ 0
+not-zero z-is other none = other (none ∙ sym z-is)
+
+-- All that is not zero stands before n. The number n falls.
 abbrev Inv-loop : tie.InvT-loop
-Inv-loop a n₀ n = Ends a n
+Inv-loop a zero n₀ n = Ends a n
 
 abbrev μ-loop : tie.MeasureT-loop
-μ-loop a n₀ n = n
+μ-loop a zero n₀ n = n
+
+number-requires : tie.Need-number-requires Inv-loop μ-loop
+number-requires c κs = search needs
 
 skip-requires : tie.Need-skip-requires Inv-loop μ-loop
 skip-requires c κs = search needs
@@ -30,7 +38,8 @@ shared-slice-read-if1 c = omega arith
 returns : tie.Need-returns Inv-loop μ-loop
 returns c =
     let inv = c .before .before .before .loop .inv in
-    (ends-at _ _ inv (λ _. c .if1 .taken), inv .within)
+    let zero : tie.After-number Inv-loop μ-loop = search needs in
+    (ends-at _ _ inv (λ _. not-zero (zero .number .ensures) (c .if1 .taken)), inv .within)
 
 sub-n : tie.Need-sub-n Inv-loop μ-loop
 sub-n c = omega arith
@@ -41,7 +50,10 @@ loop-less c = omega arith
 loop-again : tie.Need-loop-again Inv-loop μ-loop
 loop-again c =
     let at = c .before .before .before .loop in
-    ends-lower _ _ _ (at .inv) (omega arith) (λ i h k. let last : i ≡ at .n - 1 = omega arith in rw last (c .if1 .left))
+    let zero : tie.After-number Inv-loop μ-loop = search needs in
+    ends-lower _ _ _ (at .inv) (omega arith) (λ i h k.
+    let last : i ≡ at .n - 1 = omega arith in
+    rw last (c .if1 .left ∙ zero .number .ensures))
 
 returns-2 : tie.Need-returns-2 Inv-loop μ-loop
 returns-2 c =
@@ -54,6 +66,7 @@ used-spec =
     (tie.spec
     Inv-loop
     μ-loop
+    number-requires
     skip-requires
     loop-holds
     sub-if1

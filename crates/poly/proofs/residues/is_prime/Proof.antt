@@ -9,6 +9,7 @@ use Rattle.poly.proofs.residues.Trial.{Trying, trying-start, trying-tur
 use Rattle.poly.proofs.residues.is_prime.Statement.{statement}
 use Rattle.poly.proofs.residues.is_prime.Tie as tie
 
+-- No number from 2 to d - 1 divides p, and d is 5 past a multiple of 6. The numbers from d to p fall.
 abbrev Inv-loop : tie.InvT-loop
 Inv-loop p d₀ d = Trying p d
 

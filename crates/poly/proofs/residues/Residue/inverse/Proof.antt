@@ -6,6 +6,7 @@ use Rattle.poly.proofs.residues.Inverting.{Inverting, inverting-start, 
 use Rattle.poly.proofs.residues.Residue.inverse.Statement.{statement}
 use Rattle.poly.proofs.residues.Residue.inverse.Tie as tie
 
+-- What is found times the residue is `left` modulo p. The number `left` falls.
 abbrev Inv-loop : tie.InvT-loop
 Inv-loop md p left₀ found₀ left found = Inverting p left₀ left (found .0)
 

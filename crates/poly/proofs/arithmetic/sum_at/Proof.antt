@@ -4,9 +4,10 @@ use mathlib.Core.Path.{_≡_, refl}
 use Prim.Native.Nat.{_+_, _-_}
 use lib.ListN.{length}
 use Rattle.poly.proofs.arithmetic.Places.{Summing, summing-start, summing-turn, summing-end}
-use Rattle.poly.proofs.arithmetic.product_at.Statement.{statement}
-use Rattle.poly.proofs.arithmetic.product_at.Tie as tie
+use Rattle.poly.proofs.arithmetic.sum_at.Statement.{statement}
+use Rattle.poly.proofs.arithmetic.sum_at.Tie as tie
 
+-- The products before i are summed, and the sum fits. The places that are left up to the end fall.
 abbrev Inv-loop : tie.InvT-loop
 Inv-loop a b k n end i₀ sum₀ i sum = (n ≡ k + 1) × (end ≡ k + 1 - (k + 1 - length a)) × Summing a b k i sum
 
@@ -63,8 +64,8 @@ loop-again c =
 returns : tie.Need-returns Inv-loop μ-loop
 returns c = summing-end _ _ _ _ _ (c .before .loop .inv .2) (omega arith)
 
-pub product-at-spec : {M : Type 1} → statement M
-product-at-spec =
+pub sum-at-spec : {M : Type 1} → statement M
+sum-at-spec =
     tie.close
     (tie.spec
     Inv-loop
