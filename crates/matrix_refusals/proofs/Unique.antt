@@ -1,59 +1,17 @@
 -- A call has one answer only: the first rule of a table that applies is one, and so is what a refusal leaves behind.
 use mathlib.Core.Path.{_≡_, refl, sym, ap, _∙_}
-use mathlib.Core.Bool.{Bool}
-use mathlib.Core.Logic.{inl, inr}
 use mathlib.Core.List.{List, [], _∷_}
-use Prim.Native.Nat.{ℕ, _<_}
-use native.Mathlib.Omega.{arith}
+use Prim.Native.Nat.{ℕ}
 use lib.ListN.{getD}
-use Rattle.theory_algebra.specs.Prime.{Prime}
-use Rattle.theory_algebra.proofs.Cases.{case-le}
 use Rattle.matrix_refusals.specs.Number.{numberOf, placeOf, checkNumber, checkPlace}
-use Rattle.matrix_refusals.specs.Answering.{Rule, Told, Answering}
-use Rattle.matrix_refusals.specs.Refused.{Zero, FirstWrong, FirstHigh, refusalTable, Verdict}
+use Rattle.matrix_promises.specs.Answering.{Rule}
+use Rattle.matrix_refusals.specs.Number.{Verdict}
+use Rattle.matrix_promises.specs.Refused.{numberRules, coefficientRule, matrixTable, determinantTable}
 use Rattle.matrix_refusals.specs.declared.Refusal.{Refusal}
 use Rattle.matrix_refusals.specs.declared.Refusal.the-variants.{Modulus, Shape, Degree, Square, Length, Coefficient}
 use Rattle.matrix_refusals.specs.declared.Check.{Check}
 use Rattle.matrix_refusals.specs.declared.Check.the-variants.{Fine, Refused}
-use Rattle.matrix_refusals.proofs.Answering.{in-order}
-
--- P holds of one number at most
-abbrev pub One : (ℕ → Type 0) → Type 0
-One P = (i j : ℕ) → P i → P j → i ≡ j
-
--- so it does if it never holds of two numbers, one less than the other
-one : (P : ℕ → Type 0) → ((i j : ℕ) → P i → P j → ¬ (i < j)) → One P
-one P never i j f g =
-    case-le i j (λ le. case-le j i (λ ge. omega arith) (λ lt. absurd (never i j f g lt))) (λ lt. absurd (never j i g f lt))
-
--- only one place is 0
-pub zero-one : One Zero
-zero-one i j f g = f ∙ sym g
-
--- only one buffer is the first of a wrong length
-wrong-one : (given wanted : List ℕ) → One (FirstWrong given wanted)
-wrong-one given wanted = one _ (λ i j f g lt. f .wrong (g .before (f .at) (omega (arith, f .counted, g .counted))))
-
--- only one coefficient is the first that is not below p
-pub high-one : (p : ℕ) (a : List ℕ) → One (FirstHigh p a)
-high-one p a = one _ (λ i j f g lt. g .before i lt (f .here (omega (arith, g .within))))
-
--- a table allows one number and one place
-abbrev pub Decides : List Rule → Type 0
-Decides table = (k i l j : ℕ) → Told table k i → Told table l j → (k ≡ l) × (i ≡ j)
-
--- each of its rules allows one place
-abbrev pub Places : List Rule → Type 0
-Places [] = Unit
-Places ((k, right, at) ∷ rules) = One at × Places rules
-
--- the first follows from the second
-pub decides : (rules : List Rule) → Places rules → Decides rules
-decides [] ones k i l j f g = (f .0 ∙ sym (g .0), f .1 ∙ sym (g .1))
-decides (rule ∷ rules) ones k i l j (inl f) (inl g) = (f .1 ∙ sym (g .1), ones .0 i j (f .2) (g .2))
-decides (rule ∷ rules) ones k i l j (inl f) (inr g) = absurd (f .0 (g .0))
-decides (rule ∷ rules) ones k i l j (inr f) (inl g) = absurd (g .0 (f .0))
-decides (rule ∷ rules) ones k i l j (inr f) (inr g) = decides rules (ones .1) k i l j (f .1) (g .1)
+use Rattle.matrix_promises.proofs.Tables.{Decides, decides, high-one, with-numbers, matrix-decided, determinant-decided}
 
 -- the answer that has a number, a place and an outcome: done where the number is 0, else refused
 abbrev answerAt : {Answer Outcome : Type 0} → (Refusal → Answer) → (Outcome → Answer) → ℕ × ℕ × Outcome → Answer
@@ -80,31 +38,38 @@ pub said-unique : {Answer Outcome : Type 0} {refused : Refusal → Answer} {done
     → Said refused done s x → Said refused done t y → s ≡ t → x ≡ y
 said-unique {refused = refused} {done} f g same = sym (f .is) ∙ ap (answerAt refused done) same ∙ g .is
 
+-- so is a refusal
+pub refusal-unique : (x y : Refusal) → numberOf x ≡ numberOf y → placeOf x ≡ placeOf y → x ≡ y
+refusal-unique x y numbers places = said-unique {Outcome = Unit} {refused = λ z. z} {done = λ outcome. Modulus}
+    (said-refused x) (said-refused y) (λ i. (numbers i, places i, tt))
+
 -- what the checks say is an answer too
 check-said : (x : Check) → Said {Outcome = Unit} Refused (λ outcome. Fine) (checkNumber x, checkPlace x, tt) x
 check-said Fine = record { is = refl }
 check-said (Refused x) = said-refused x
 
-module _ (determinant : Bool) (p n m d : ℕ) (given wanted a : List ℕ) where
-  -- the refusal table allows one number and one place
-  pub told-unique : Decides (refusalTable determinant p n m d given wanted a)
-  told-unique =
-      decides (refusalTable determinant p n m d given wanted a)
-      (zero-one, (zero-one, (zero-one, (zero-one, (wrong-one given wanted, (high-one p a, tt))))))
+-- so are what checks say by rules that allow one number and one place
+pub verdict-unique : (table : List Rule) → Decides table → (x y : Check) → Verdict table x → Verdict table y → x ≡ y
+verdict-unique table decided x y f g =
+    let (numbers, places) = decided _ _ _ _ f g in said-unique (check-said x) (check-said y) (λ i. (numbers i, places i, tt))
 
-  -- so the checks say one thing only
-  pub verdict-unique : (x y : Check) → Verdict determinant p n m d given wanted a x → Verdict determinant p n m d given wanted a y → x ≡ y
-  verdict-unique x y f g =
-      let (numbers, places) = told-unique _ _ _ _ f g in said-unique (check-said x) (check-said y) (λ i. (numbers i, places i, tt))
+-- ## The checks: two answers that the promise allows are equal
 
--- two answers by the table are equal in all that is returned and in the buffers, if this is true of what is done
-pub answering-unique : (determinant : Bool) {p n m d : ℕ} {given wanted a : List ℕ} {k i l j : ℕ} {Outcome : Type 0} {x y kept : Outcome}
-    {Done Done′ : Type 0} → (Prime p → Done → Done′ → x ≡ y) → Answering (refusalTable determinant p n m d given wanted a) k i x kept Done
-    → Answering (refusalTable determinant p n m d given wanted a) l j y kept Done′ → _≡_ {A = ℕ × ℕ × Outcome} (k, i, x) (l, j, y)
-answering-unique determinant {p} {n} {m} {d} {given} {wanted} {a} {k} done-same f g =
-    let (numbers, places) = told-unique determinant p n m d given wanted a _ _ _ _ (f .told) (g .told) in
-    let same = case-le k 0
-    (λ le. let none : k ≡ 0 = omega arith in
-    done-same (in-order {determinant = determinant} none (f .told) .numbers .modulus .prime) (f .done none) (g .done (sym numbers ∙ none)))
-    (λ some. f .refused some ∙ sym (g .refused (omega arith))) in
-    λ i. (numbers i, places i, same i)
+-- of `check_numbers`
+pub numbers-checked-unique : (p n m d : ℕ) (x y : Check) → Verdict (numberRules p n m d []) x → Verdict (numberRules p n m d []) y → x ≡ y
+numbers-checked-unique p n m d = verdict-unique (numberRules p n m d []) (with-numbers [] tt)
+
+-- of `check_coefficients`
+pub coefficients-checked-unique : (p : ℕ) (a : List ℕ) (x y : Check) → Verdict (coefficientRule p a ∷ []) x
+    → Verdict (coefficientRule p a ∷ []) y → x ≡ y
+coefficients-checked-unique p a = verdict-unique (coefficientRule p a ∷ []) (decides (coefficientRule p a ∷ []) (high-one p a, tt))
+
+-- of `check_step` and `check_reduction`: `given` and `wanted` are the lengths of their buffers
+pub matrix-checked-unique : (p n m d : ℕ) (given wanted a : List ℕ) (x y : Check) → Verdict (matrixTable p n m d given wanted a) x
+    → Verdict (matrixTable p n m d given wanted a) y → x ≡ y
+matrix-checked-unique p n m d given wanted a = verdict-unique (matrixTable p n m d given wanted a) matrix-decided
+
+-- of `check_determinant`
+pub determinant-checked-unique : (p n m d : ℕ) (given a : List ℕ) (x y : Check) → Verdict (determinantTable p n m d given a) x
+    → Verdict (determinantTable p n m d given a) y → x ≡ y
+determinant-checked-unique p n m d given a = verdict-unique (determinantTable p n m d given a) determinant-decided

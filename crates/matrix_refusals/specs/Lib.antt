@@ -1,4 +1,1 @@
 pub mod Number
-pub mod Answering
-pub mod Refused
-pub mod checks

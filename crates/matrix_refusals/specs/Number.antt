@@ -1,5 +1,7 @@
--- The number and the place of each refusal, and of what the checks say, in the refusal table (`Refused.refusalTable`).
+-- The number and the place of each refusal, and of what the checks say, in the refusal tables (file Refused).
+use mathlib.Core.List.{List}
 use Prim.Native.Nat.{ℕ}
+use Rattle.matrix_promises.specs.Answering.{Rule, Told}
 use Rattle.matrix_refusals.specs.declared.Refusal.{Refusal}
 use Rattle.matrix_refusals.specs.declared.Refusal.the-variants.{Modulus, Shape, Degree, Square, Length, Coefficient}
 use Rattle.matrix_refusals.specs.declared.Check.{Check}
@@ -28,3 +30,7 @@ checkNumber (Refused x) = numberOf x
 abbrev pub checkPlace : Check → ℕ
 checkPlace Fine = 0
 checkPlace (Refused x) = placeOf x
+
+-- what checks say, by the rules that they look at
+abbrev pub Verdict : (table : List Rule) → Check → Type 0
+Verdict table c = Told table (checkNumber c) (checkPlace c)

@@ -1,13 +1,14 @@
 // Which calls are refused, and why: the checks in the paper's order. Nothing is written here, so that every buffer of a
 // refused call holds what it held.
 ghost use mathlib.Core.Path.{_≡_};
-ghost use mathlib.Core.Bool.{true, false};
+ghost use mathlib.Core.Bool.{true};
 ghost use mathlib.Core.Logic.{_↔_};
 ghost use Prim.Native.Nat.{_+_, _*_, _≤_};
 ghost use mathlib.Core.List.{[], _∷_};
 ghost use lib.ListN.{length};
-ghost use Rattle.matrix_refusals.specs.Refused.{Verdict, FirstHigh, reductionSizes, stepSizes, determinantSizes};
-ghost use Rattle.matrix_refusals.specs.checks.CheckParts.{OfNumbers, OfLengths, OfMatrix, OfCoefficients};
+ghost use Rattle.matrix_refusals.specs.Number.{Verdict};
+ghost use Rattle.matrix_promises.specs.Refused.{FirstHigh, reductionSizes, stepSizes};
+ghost use Rattle.matrix_promises.specs.Refused.{numberRules, lengthRule, coefficientRule, matrixTable, determinantTable};
 use crate::Check;
 use crate::Refusal;
 use poly::Modulus;
@@ -34,7 +35,7 @@ fn wide(x: u16) -> u32
 
 // Refusals 1 to 3.
 pub fn check_numbers(p: u32, n: usize, m: usize, d: usize) -> Check
-    ensures { λ r. ⌜ OfNumbers p n m d r ⌝ }
+    ensures { λ r. ⌜ Verdict (numberRules p n m d []) r ⌝ }
 {
     if !Modulus::accepts(p) {
         return Check::Refused(Refusal::Modulus);
@@ -63,7 +64,7 @@ fn one_to_eight(n: usize) -> bool
 
 // Refusal 5 for the two buffers that every service has: input and result have a and r places, and should have `places` and `result`.
 fn check_lengths(a: usize, places: usize, r: usize, result: usize) -> Check
-    ensures { λ c. ⌜ OfLengths a places r result c ⌝ }
+    ensures { λ c. ⌜ Verdict (lengthRule (a ∷ r ∷ []) (places ∷ result ∷ []) ∷ []) c ⌝ }
 {
     if a != places {
         return Check::Refused(Refusal::Length(1));
@@ -76,7 +77,7 @@ fn check_lengths(a: usize, places: usize, r: usize, result: usize) -> Check
 
 // Refusals 1 to 3, and 5 for these two buffers, where the result is a matrix.
 fn check_matrix(p: u32, n: usize, m: usize, d: usize, a: usize, r: usize) -> Check
-    ensures { λ c. ⌜ OfMatrix p n m d a r c ⌝ }
+    ensures { λ c. ⌜ Verdict (numberRules p n m d (lengthRule (a ∷ r ∷ []) (stepSizes n m d) ∷ [])) c ⌝ }
 {
     if let Check::Refused(x) = check_numbers(p, n, m, d) {
         return Check::Refused(x);
@@ -87,7 +88,7 @@ fn check_matrix(p: u32, n: usize, m: usize, d: usize, a: usize, r: usize) -> Che
 
 // Refusal 6.
 pub fn check_coefficients(a: &[u16], p: u32) -> Check
-    ensures { λ c. ⌜ OfCoefficients p (now (a .entry)) c ⌝ }
+    ensures { λ c. ⌜ Verdict (coefficientRule p (now (a .entry)) ∷ []) c ⌝ }
 {
     let i = first_high(a, p);
     if i < a.len() {
@@ -98,7 +99,7 @@ pub fn check_coefficients(a: &[u16], p: u32) -> Check
 
 // The checks of the single step, whose result has r places.
 pub fn check_step(p: u32, n: usize, m: usize, d: usize, a: &[u16], r: usize) -> Check
-    ensures { λ c. ⌜ Verdict false p n m d (length (now (a .entry)) ∷ r ∷ []) (stepSizes n m d) (now (a .entry)) c ⌝ }
+    ensures { λ c. ⌜ Verdict (matrixTable p n m d (length (now (a .entry)) ∷ r ∷ []) (stepSizes n m d) (now (a .entry))) c ⌝ }
 {
     if let Check::Refused(x) = check_matrix(p, n, m, d, a.len(), r) {
         return Check::Refused(x);
@@ -117,7 +118,7 @@ pub fn check_reduction(
     u: usize,
     v: usize,
 ) -> Check
-    ensures { λ c. ⌜ Verdict false p n m d (length (now (a .entry)) ∷ r ∷ u ∷ v ∷ []) (reductionSizes n m d) (now (a .entry)) c ⌝ }
+    ensures { λ c. ⌜ Verdict (matrixTable p n m d (length (now (a .entry)) ∷ r ∷ u ∷ v ∷ []) (reductionSizes n m d) (now (a .entry))) c ⌝ }
 {
     if let Check::Refused(x) = check_matrix(p, n, m, d, a.len(), r) {
         return Check::Refused(x);
@@ -134,7 +135,7 @@ pub fn check_reduction(
 
 // The checks of the determinant, whose result has r places.
 pub fn check_determinant(p: u32, n: usize, m: usize, d: usize, a: &[u16], r: usize) -> Check
-    ensures { λ c. ⌜ Verdict true p n m d (length (now (a .entry)) ∷ r ∷ []) (determinantSizes n m d) (now (a .entry)) c ⌝ }
+    ensures { λ c. ⌜ Verdict (determinantTable p n m d (length (now (a .entry)) ∷ r ∷ []) (now (a .entry))) c ⌝ }
 {
     if let Check::Refused(x) = check_numbers(p, n, m, d) {
         return Check::Refused(x);

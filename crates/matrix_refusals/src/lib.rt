@@ -20,7 +20,7 @@ pub enum Check {
 }
 
 // The number and the place of a refusal, by the refusal table.
-pub fn number_of(x: Refusal) -> usize
+pub fn table_number(x: Refusal) -> usize
     ensures { λ r. ⌜ r ≡ numberOf x ⌝ }
 {
     match x {
@@ -33,7 +33,7 @@ pub fn number_of(x: Refusal) -> usize
     }
 }
 
-pub fn place_of(x: Refusal) -> usize
+pub fn table_place(x: Refusal) -> usize
     ensures { λ r. ⌜ r ≡ placeOf x ⌝ }
 {
     match x {

@@ -1,12 +1,12 @@
 use native.Mathlib.Omega.{arith}
 use borrow.Author.Needs.{needs}
-use mathlib.Core.Path.{refl, subst, ap₂}
-use mathlib.Core.Bool.{true}
-use mathlib.Core.List.{_∷_}
+use mathlib.Core.Path.{refl}
+use mathlib.Core.Logic.{inl, inr}
+use mathlib.Core.List.{[], _∷_}
 use Rattle.matrix_buffers.proofs.Bounds.{row-few, matrix-few}
-use Rattle.matrix_refusals.specs.Refused.{Numbers}
-use Rattle.matrix_refusals.specs.checks.CheckParts.{OfNumbers, OfLengths}
-use Rattle.matrix_refusals.proofs.checks.Verdicts.{not-square, determinant-few, in-bounds}
+use Rattle.matrix_promises.specs.Refused.{Numbers, numberRules, squareRule, lengthRule, coefficientRule}
+use Rattle.matrix_promises.proofs.Tables.{past-numbers}
+use Rattle.matrix_refusals.proofs.checks.Verdicts.{verdict-first, verdict-then, numbers-fine, determinant-few, in-bounds}
 use Rattle.matrix_refusals.proofs.checks.check_determinant.Statement.{statement}
 use Rattle.matrix_refusals.proofs.checks.check_determinant.Tie as tie
 
@@ -16,7 +16,7 @@ start c = c .before .before .before .before
 
 -- past the first test the numbers are in range
 numbers : (c : tie.After-enum-told) → let args = start c .args in Numbers (args .p) (args .n) (args .m) (args .d)
-numbers c = subst (OfNumbers _ _ _ _) (c .enum-told .given .1) (c .before .before .check-numbers .ensures)
+numbers c = numbers-fine (c .enum-told .given .1) (c .before .before .check-numbers .ensures)
 
 check-numbers-requires : tie.Need-check-numbers-requires
 check-numbers-requires c κs = search needs
@@ -25,13 +25,16 @@ enum-known-x : tie.Need-enum-known-x
 enum-known-x c = search needs
 
 returns : tie.Need-returns
-returns c = subst (OfNumbers _ _ _ _) (c .before .x .given .1) (c .before .before .before .check-numbers .ensures) true _ _ _
+returns c =
+    verdict-first (numberRules _ _ _ _ []) (squareRule _ _ ∷ lengthRule _ _ ∷ coefficientRule _ _ ∷ [])
+    (c .before .before .before .check-numbers .ensures) (c .before .x .given .1)
 
 enum-told : tie.Need-enum-told
 enum-told c = search needs
 
 returns-2 : tie.Need-returns-2
-returns-2 c = not-square (numbers (c .before)) (c .if1 .taken)
+returns-2 c =
+    past-numbers (squareRule _ _ ∷ lengthRule _ _ ∷ coefficientRule _ _ ∷ []) (numbers (c .before)) (inl (c .if1 .taken, refl, refl))
 
 add-check-lengths : tie.Need-add-check-lengths
 add-check-lengths c = omega (arith, numbers (c .before) .degree)
@@ -57,8 +60,10 @@ enum-known-x-2 c = search needs
 returns-3 : tie.Need-returns-3
 returns-3 c =
     let compared = c .before .before .before in
-    subst (OfLengths _ _ _ _) (c .before .x2 .given .1) (compared .check-lengths .ensures) true _ _ _ _ _ _ _
-    (numbers (compared .before .before)) (compared .before .if1 .left)
+    past-numbers (squareRule _ _ ∷ lengthRule _ _ ∷ coefficientRule _ _ ∷ []) (numbers (compared .before .before)) (inr (
+      compared .before .if1 .left,
+      verdict-first (lengthRule _ _ ∷ []) (coefficientRule _ _ ∷ []) (compared .check-lengths .ensures) (c .before .x2 .given .1),
+    ))
 
 enum-told-2 : tie.Need-enum-told-2
 enum-told-2 c = search needs
@@ -69,8 +74,11 @@ check-coefficients-requires c κs = search needs
 returns-4 : tie.Need-returns-4
 returns-4 c =
     let compared = c .before .before .before in
-    let (input, result) = subst (OfLengths _ _ _ _) (c .before .enum-told2 .given .1) (compared .check-lengths .ensures) in
-    c .check-coefficients .ensures true _ _ _ _ _ (numbers (compared .before .before)) (compared .before .if1 .left) (ap₂ _∷_ input (ap₂ _∷_ result refl))
+    past-numbers (squareRule _ _ ∷ lengthRule _ _ ∷ coefficientRule _ _ ∷ []) (numbers (compared .before .before)) (inr (
+      compared .before .if1 .left,
+      verdict-then (lengthRule _ _ ∷ []) (coefficientRule _ _ ∷ []) (compared .check-lengths .ensures) (c .check-coefficients .result)
+          (omega arith, tt) (c .before .enum-told2 .given .1) (c .check-coefficients .ensures),
+    ))
 
 pub check-determinant-spec : {M : Type 1} → statement M
 check-determinant-spec =

@@ -1,17 +1,16 @@
 use native.Mathlib.Omega.{arith}
 use borrow.Author.Needs.{needs}
-use mathlib.Core.Path.{subst}
-use mathlib.Core.Bool.{false}
+use mathlib.Core.List.{[], _∷_}
 use Rattle.matrix_buffers.proofs.Bounds.{row-few, matrix-few}
-use Rattle.matrix_refusals.specs.Refused.{Numbers}
-use Rattle.matrix_refusals.specs.checks.CheckParts.{OfNumbers}
-use Rattle.matrix_refusals.proofs.checks.Verdicts.{matrix-lengths, in-bounds}
+use Rattle.matrix_promises.specs.Refused.{Numbers, numberRules, lengthRule}
+use Rattle.matrix_promises.proofs.Tables.{past-numbers}
+use Rattle.matrix_refusals.proofs.checks.Verdicts.{verdict-first, numbers-fine, in-bounds}
 use Rattle.matrix_refusals.proofs.checks.check_matrix.Statement.{statement}
 use Rattle.matrix_refusals.proofs.checks.check_matrix.Tie as tie
 
 -- past the first test the numbers are in range
 numbers : (c : tie.After-enum-told) → let args = c .before .before .before .args in Numbers (args .p) (args .n) (args .m) (args .d)
-numbers c = subst (OfNumbers _ _ _ _) (c .enum-told .given .1) (c .before .before .check-numbers .ensures)
+numbers c = numbers-fine (c .enum-told .given .1) (c .before .before .check-numbers .ensures)
 
 check-numbers-requires : tie.Need-check-numbers-requires
 check-numbers-requires c κs = search needs
@@ -20,7 +19,8 @@ enum-known-x : tie.Need-enum-known-x
 enum-known-x c = search needs
 
 returns : tie.Need-returns
-returns c = λ given wanted l. subst (OfNumbers _ _ _ _) (c .before .x .given .1) (c .before .before .before .check-numbers .ensures) false _ _ _
+returns c =
+    verdict-first (numberRules _ _ _ _ []) (lengthRule _ _ ∷ []) (c .before .before .before .check-numbers .ensures) (c .before .x .given .1)
 
 enum-told : tie.Need-enum-told
 enum-told c = search needs
@@ -38,9 +38,7 @@ check-lengths-requires : tie.Need-check-lengths-requires
 check-lengths-requires c κs = search needs
 
 returns-2 : tie.Need-returns-2
-returns-2 c =
-    let start : tie.Start = search needs in
-    matrix-lengths (start .args .a) (start .args .r) (c .check-lengths .result) (numbers (c .before)) (c .check-lengths .ensures)
+returns-2 c = past-numbers (lengthRule _ _ ∷ []) (numbers (c .before)) (c .check-lengths .ensures)
 
 pub check-matrix-spec : {M : Type 1} → statement M
 check-matrix-spec =

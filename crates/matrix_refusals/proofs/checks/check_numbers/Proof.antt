@@ -4,8 +4,8 @@ use mathlib.Core.Path.{refl}
 use mathlib.Core.Logic.{inl, inr}
 use borrow.Author.Tests.{not-true, not-false}
 use Rattle.theory_algebra.proofs.Flag.{denied}
-use Rattle.poly.specs.residues.Modulus.{Accepted}
-use Rattle.matrix_refusals.specs.Refused.{InShape}
+use Rattle.theory_algebra.specs.Modulus.{Accepted}
+use Rattle.matrix_promises.specs.Refused.{InShape}
 use Rattle.matrix_refusals.proofs.checks.check_numbers.Statement.{statement}
 use Rattle.matrix_refusals.proofs.checks.check_numbers.Tie as tie
 
@@ -27,13 +27,13 @@ accepts-requires : tie.Need-accepts-requires
 accepts-requires c κs = search needs
 
 returns : tie.Need-returns
-returns c = λ determinant given wanted a. inl (denied (c .before .accepts .ensures) (not-true _ (c .if1 .taken)), refl, refl)
+returns c = inl (denied (c .before .accepts .ensures) (not-true _ (c .if1 .taken)), refl, refl)
 
 one-to-eight-requires : tie.Need-one-to-eight-requires
 one-to-eight-requires c κs = search needs
 
 returns-2 : tie.Need-returns-2
-returns-2 c = λ determinant given wanted a. inr (
+returns-2 c = inr (
   accepted (c .before .before),
   inl ((λ s. denied (c .before .one-to-eight .ensures) (not-true _ (c .if2 .taken)) (s .rows, s .rows-most)), refl, refl),
 )
@@ -42,19 +42,19 @@ one-to-eight-requires-2 : tie.Need-one-to-eight-requires-2
 one-to-eight-requires-2 c κs = search needs
 
 returns-3 : tie.Need-returns-3
-returns-3 c = λ determinant given wanted a. inr (
+returns-3 c = inr (
   accepted (search needs),
   inl ((λ s. denied (c .before .one-to-eight2 .ensures) (not-true _ (c .if3 .taken)) (s .columns, s .columns-most)), refl, refl),
 )
 
 returns-4 : tie.Need-returns-4
-returns-4 c = λ determinant given wanted a. inr (
+returns-4 c = inr (
   accepted (search needs),
   inr (shape (c .before), inl ((λ h. omega (arith, c .if4 .taken, h)), refl, refl)),
 )
 
 returns-5 : tie.Need-returns-5
-returns-5 c = record { modulus = accepted (search needs); shape = shape (c .before); degree = c .if4 .left }
+returns-5 c = inr (accepted (search needs), inr (shape (c .before), inr (c .if4 .left, (refl, refl))))
 
 pub check-numbers-spec : {M : Type 1} → statement M
 check-numbers-spec =

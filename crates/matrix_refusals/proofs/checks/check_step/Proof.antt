@@ -1,22 +1,10 @@
 use borrow.Author.Needs.{needs}
-use mathlib.Core.Path.{refl, subst, ap₂}
-use mathlib.Core.Bool.{false}
-use mathlib.Core.List.{_∷_}
-use denote.Ref.{now}
-use lib.ListN.{length}
-use Rattle.matrix_refusals.specs.checks.CheckParts.{OfMatrix}
-use Rattle.matrix_refusals.specs.declared.Check.the-variants.{Fine}
+use mathlib.Core.List.{[], _∷_}
+use native.Mathlib.Omega.{arith}
+use Rattle.matrix_promises.specs.Refused.{numberRules, lengthRule, coefficientRule}
+use Rattle.matrix_refusals.proofs.checks.Verdicts.{verdict-first, verdict-then}
 use Rattle.matrix_refusals.proofs.checks.check_step.Statement.{statement}
 use Rattle.matrix_refusals.proofs.checks.check_step.Tie as tie
-
--- where the function starts, seen from past the first test
-abbrev start : tie.After-enum-told → tie.Start
-start c = c .before .before .before .before
-
--- past the first test the numbers and two lengths are right
-known : (c : tie.After-enum-told) → let args = start c .args in
-    OfMatrix (args .p) (args .n) (args .m) (args .d) (length (now (args .a))) (args .r) Fine
-known c = subst (OfMatrix _ _ _ _ _ _) (c .enum-told .given .1) (c .before .before .check-matrix .ensures)
 
 check-matrix-requires : tie.Need-check-matrix-requires
 check-matrix-requires c κs = search needs
@@ -25,7 +13,9 @@ enum-known-x : tie.Need-enum-known-x
 enum-known-x c = search needs
 
 returns : tie.Need-returns
-returns c = subst (OfMatrix _ _ _ _ _ _) (c .before .x .given .1) (c .before .before .before .check-matrix .ensures) _ _ _
+returns c =
+    verdict-first (numberRules _ _ _ _ (lengthRule _ _ ∷ [])) (coefficientRule _ _ ∷ []) (c .before .before .before .check-matrix .ensures)
+    (c .before .x .given .1)
 
 enum-told : tie.Need-enum-told
 enum-told c = search needs
@@ -35,8 +25,9 @@ check-coefficients-requires c κs = search needs
 
 returns-2 : tie.Need-returns-2
 returns-2 c =
-    let k = known (c .before) in
-    c .check-coefficients .ensures false _ _ _ _ _ (k .0) tt (ap₂ _∷_ (k .1) (ap₂ _∷_ (k .2) refl))
+    verdict-then (numberRules _ _ _ _ (lengthRule _ _ ∷ [])) (coefficientRule _ _ ∷ []) (c .before .before .before .check-matrix .ensures)
+    (c .check-coefficients .result) (omega arith, (omega arith, (omega arith, (omega arith, tt)))) (c .before .enum-told .given .1)
+    (c .check-coefficients .ensures)
 
 pub check-step-spec : {M : Type 1} → statement M
 check-step-spec =
