@@ -13,8 +13,19 @@ use borrow.Author.Tests.{eqb-true, eq-eqb}
 use Rattle.theory_algebra.proofs.Cases.{case-le}
 use Rattle.matrix_pivots.specs.Columns.{bitOf, In, Entered}
 
-pub has-bit : (x : ℕ) → (eqb (bitAnd x 1) 1 ≡ true) ↔ (x % 2 ≡ 1)
+has-bit : (x : ℕ) → (eqb (bitAnd x 1) 1 ≡ true) ↔ (x % 2 ≡ 1)
 has-bit x = ((λ h. sym (and-mask x 1) ∙ eqb-true (bitAnd x 1) 1 h), λ h. eq-eqb (bitAnd x 1) 1 (and-mask x 1 ∙ h))
+
+-- a row that is not zero has a pivot column
+pub some-column : {x : ℕ} → x ≢ 0 → 0 < x
+some-column ne = omega arith
+
+-- c is column x counted from 0
+pub has-column : (a x c : ℕ) → 0 < x → c ≡ x - 1 → (eqb (bitAnd (a / 2 ^ c) 1) 1 ≡ true) ↔ In a x
+has-column a x c some is = (
+  (λ t. record { column = some; set = ap (bitOf a) (sym is) ∙ has-bit _ .0 t }),
+  (λ h. has-bit _ .1 (ap (bitOf a) is ∙ h .set)),
+)
 
 pow-same : (c : ℕ) → 2 ^ c / 2 ^ c % 2 ≡ 1
 pow-same c = ap (λ x. x % 2) (N.div-self (pow-pos c))
@@ -58,13 +69,16 @@ module _ (a x : ℕ) (some : 0 < x) (few : x ≤ 8) where
     ];
   }
 
-  -- as the machine has it, a shift within eight bits
-  pub entered-shifted : Entered a x (bitOr a (1 * 2 ^ (x - 1) % 256))
+  -- as the machine has it, a shift within eight bits by the column counted from 0
+  pub entered-shifted : (c : ℕ) → c ≡ x - 1 → Entered a x (bitOr a (1 * 2 ^ c % 256))
   unfolding b
-  entered-shifted = subst (λ (y : ℕ). Entered a x (bitOr a y)) (sym is) entered
+  entered-shifted c e = subst (λ (y : ℕ). Entered a x (bitOr a y)) (sym is) entered
     where
-      is : 1 * 2 ^ (x - 1) % 256 ≡ 2 ^ (x - 1)
-      is = ap (λ (y : ℕ). y % 256) (N.one-mul (2 ^ (x - 1))) ∙ N.mod-eq-of-lt (pow-lt {j = 8} (omega arith))
+      is : 1 * 2 ^ c % 256 ≡ 2 ^ (x - 1)
+      is =
+          ap (λ (y : ℕ). 1 * 2 ^ y % 256) e
+          ∙ ap (λ (y : ℕ). y % 256) (N.one-mul (2 ^ (x - 1)))
+          ∙ N.mod-eq-of-lt (pow-lt {j = 8} (omega arith))
 
 -- no column at all
 pub entered-none : (a : ℕ) → Entered a 0 a

@@ -2,8 +2,9 @@
 use mathlib.Core.Path.{_≡_}
 use mathlib.Core.Logic.{_⊎_}
 use mathlib.Core.List.{List}
-use Prim.Native.Nat.{ℕ, _-_, _/_, _%_, _^_, _≤_, _<_}
-use lib.ListN.{length, getD}
+use Prim.Native.Nat.{ℕ, _-_, _/_, _%_, _^_, _<_}
+use Rattle.matrix_pivots.specs.Pivot.{indexAt}
+use Rattle.matrix_pivots.specs.declared.pivot.Pivot.{Pivot}
 
 -- bit c of a mask: 1 or 0
 abbrev pub bitOf : ℕ → ℕ → ℕ
@@ -20,20 +21,15 @@ pub record Entered (a x b : ℕ) : Type 0 where
   pub new : 0 < x → In b x
   pub only : (y : ℕ) → In b y → In a y ⊎ (y ≡ x)
 
--- the pivot indices of n rows of at most eight columns
-pub record Indices (n : ℕ) (indices : List ℕ) : Type 0 where
-  pub room : n ≤ length indices
-  pub few : (i : ℕ) → i < n → getD indices i 0 ≤ 8
-
 -- rows i and j have "the same non-zero pivot index"
-pub record Meets (indices : List ℕ) (i j : ℕ) : Type 0 where
-  pub nonzero : 0 < getD indices i 0
-  pub same : getD indices i 0 ≡ getD indices j 0
+pub record Meets (pivots : List Pivot) (i j : ℕ) : Type 0 where
+  pub nonzero : 0 < indexAt pivots i
+  pub same : indexAt pivots i ≡ indexAt pivots j
 
 -- "a column already in the set is what calls for a step": two of the n rows meet
-pub record RepeatsColumn (n : ℕ) (indices : List ℕ) : Type 0 where
+pub record RepeatsColumn (n : ℕ) (pivots : List Pivot) : Type 0 where
   pub a : ℕ
   pub b : ℕ
   pub ordered : a < b
   pub fits : b < n
-  pub meets : Meets indices a b
+  pub meets : Meets pivots a b

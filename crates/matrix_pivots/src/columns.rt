@@ -4,7 +4,9 @@ ghost use mathlib.Core.Path.{_≡_};
 ghost use mathlib.Core.Bool.{true};
 ghost use mathlib.Core.Logic.{_↔_};
 ghost use Prim.Native.Nat.{_≤_};
-ghost use Rattle.matrix_pivots.specs.Columns.{In, Entered, Indices, RepeatsColumn};
+ghost use Rattle.matrix_pivots.specs.Columns.{In, Entered, RepeatsColumn};
+ghost use Rattle.matrix_pivots.specs.NextPair.{NextAsked};
+use crate::Pivot;
 use crate::PivotIndex;
 
 // Bit c - 1 stands for column c; a zero row, of index 0, has none.
@@ -17,10 +19,10 @@ impl Columns {
         requires { ⌜ x .0 ≤ 8 ⌝ }
         ensures { λ r. ⌜ (r ≡ true) ↔ In (self .0) (x .0) ⌝ }
     {
-        if x.0 == 0 {
+        if x.is_zero_row() {
             return false;
         }
-        let c = (x.0 - 1) as u32;
+        let c = x.column() as u32;
         (self.0 >> c) & 1 == 1
     }
 
@@ -28,23 +30,24 @@ impl Columns {
         requires { ⌜ x .0 ≤ 8 ⌝ }
         ensures { λ r. ⌜ Entered (self .0) (x .0) (r .0) ⌝ }
     {
-        if x.0 == 0 {
+        if x.is_zero_row() {
             return self;
         }
-        let c = (x.0 - 1) as u32;
+        let c = x.column() as u32;
         Columns(self.0 | 1 << c)
     }
 }
 
 // Whether a second row comes upon a column in use: whether a step is called for.
-pub fn repeats_column(index: &[usize], n: usize) -> bool
-    requires { ⌜ Indices n (now index) ⌝ }
-    ensures { λ r. ⌜ (r ≡ true) ↔ RepeatsColumn n (now (index .entry)) ⌝ }
+pub fn repeats_column(pivots: [Pivot; 8], n: usize) -> bool
+    requires { ⌜ NextAsked n pivots ⌝ }
+    ensures { λ r. ⌜ (r ≡ true) ↔ RepeatsColumn n pivots ⌝ }
 {
     let mut used = Columns::NONE;
     let mut i = 0;
     while i < n {
-        let x = PivotIndex(index[i]);
+        let pivot = pivots[i];
+        let x = pivot.index;
         if used.has(x) {
             return true;
         }

@@ -1,8 +1,8 @@
 // The two rows of a step, by the pivots of all rows. The set of columns says whether there are any; which they are is
 // another question, since the lowest row that has a later partner need not be the partner of the first repeated column.
 ghost use Prim.Native.Nat.{_<_, _≤_};
-ghost use lib.ListN.{length};
 ghost use Rattle.matrix_pivots.specs.NextPair.{Partner, NextAsked, IsNext};
+use crate::Pivot;
 use crate::columns;
 
 pub enum Next {
@@ -11,17 +11,20 @@ pub enum Next {
 }
 
 // The lowest row after a with the pivot index of a, or n.
-fn partner(index: &[usize], a: usize, n: usize) -> usize
-    requires { ⌜ (a < n) × (n ≤ length (now index)) ⌝ }
-    ensures { λ b. ⌜ Partner (now (index .entry)) n a b ⌝ }
+fn partner(pivots: [Pivot; 8], a: usize, n: usize) -> usize
+    requires { ⌜ (a < n) × (n ≤ 8) ⌝ }
+    ensures { λ b. ⌜ Partner pivots n a b ⌝ }
 {
-    let x = index[a];
-    if x == 0 {
+    let first = pivots[a];
+    let x = first.index;
+    if x.is_zero_row() {
         return n;
     }
     let mut b = a + 1;
     while b < n {
-        if index[b] == x {
+        let later = pivots[b];
+        let y = later.index;
+        if y.same(x) {
             return b;
         }
         b += 1;
@@ -30,15 +33,19 @@ fn partner(index: &[usize], a: usize, n: usize) -> usize
 }
 
 // The lowest row that has a partner, with its partner: the one of greater pivot degree, or else the later one, is l.
-fn choose(index: &[usize], degree: &[usize], n: usize) -> Next
-    requires { ⌜ NextAsked n (now index) (now degree) ⌝ }
-    ensures { λ x. ⌜ IsNext n (now (index .entry)) (now (degree .entry)) x ⌝ }
+fn choose(pivots: [Pivot; 8], n: usize) -> Next
+    requires { ⌜ NextAsked n pivots ⌝ }
+    ensures { λ x. ⌜ IsNext n pivots x ⌝ }
 {
     let mut a = 0;
     while a < n {
-        let b = partner(index, a, n);
+        let b = partner(pivots, a, n);
         if b < n {
-            if degree[b] < degree[a] {
+            let first = pivots[a];
+            let later = pivots[b];
+            let of_a = first.degree;
+            let of_b = later.degree;
+            if of_b.below(of_a) {
                 return Next::Rows { l: a, k: b };
             }
             return Next::Rows { l: b, k: a };
@@ -49,12 +56,12 @@ fn choose(index: &[usize], degree: &[usize], n: usize) -> Next
 }
 
 // The rows of the next step.
-pub fn next_rows(index: &[usize], degree: &[usize], n: usize) -> Next
-    requires { ⌜ NextAsked n (now index) (now degree) ⌝ }
-    ensures { λ x. ⌜ IsNext n (now (index .entry)) (now (degree .entry)) x ⌝ }
+pub fn next_rows(pivots: [Pivot; 8], n: usize) -> Next
+    requires { ⌜ NextAsked n pivots ⌝ }
+    ensures { λ x. ⌜ IsNext n pivots x ⌝ }
 {
-    if columns::repeats_column(index, n) {
-        return choose(index, degree, n);
+    if columns::repeats_column(pivots, n) {
+        return choose(pivots, n);
     }
     Next::Nothing
 }

@@ -1,3 +1,4 @@
+-- The least degree of the rows before i is known. The number of rows that are left falls.
 use borrow.Author.Needs.{needs}
 use native.Mathlib.Omega.{arith}
 use mathlib.Core.Path.{ap, _∙_}
@@ -7,19 +8,19 @@ use Rattle.matrix_pivots.proofs.pivot.least.Statement.{statement}
 use Rattle.matrix_pivots.proofs.pivot.least.Tie as tie
 
 abbrev Inv-loop : tie.InvT-loop
-Inv-loop degree n w x₀ i₀ x i = Found w n degree x i
+Inv-loop n w pivots x₀ i₀ x i = Found w n pivots x i
 
 abbrev μ-loop : tie.MeasureT-loop
-μ-loop degree n w x₀ i₀ x i = n - i
+μ-loop n w pivots x₀ i₀ x i = n - i
 
 loop-holds : tie.Need-loop-holds Inv-loop μ-loop
 loop-holds c = found-start _ _ _
 
-mul-t8 : tie.Need-mul-t8 Inv-loop μ-loop
-mul-t8 c = search needs
+mul-pivot : tie.Need-mul-pivot Inv-loop μ-loop
+mul-pivot c = search needs
 
-shared-slice-read-t10 : tie.Need-shared-slice-read-t10 Inv-loop μ-loop
-shared-slice-read-t10 c = search needs
+array-copy-out-pivot : tie.Need-array-copy-out-pivot Inv-loop μ-loop
+array-copy-out-pivot c = search needs
 
 or-zero-requires : tie.Need-or-zero-requires Inv-loop μ-loop
 or-zero-requires c κs = search needs
@@ -43,14 +44,5 @@ pub least-spec : {M : Type 1} → statement M
 least-spec =
     tie.close
     (tie.spec
-    Inv-loop
-    μ-loop
-    loop-holds
-    mul-t8
-    shared-slice-read-t10
-    or-zero-requires
-    lesser-requires
-    add-i
-    loop-less
-    loop-again
-    returns)
+    Inv-loop μ-loop loop-holds mul-pivot array-copy-out-pivot or-zero-requires lesser-requires add-i loop-less
+    loop-again returns)

@@ -1,15 +1,18 @@
 use native.Mathlib.Omega.{arith}
 use borrow.Author.Needs.{needs}
-use Rattle.theory_algebra.proofs.Flag.{says-no}
-use Rattle.matrix_pivots.proofs.Bits.{has-bit}
+use Rattle.theory_algebra.proofs.Flag.{says-no, denied}
+use Rattle.matrix_pivots.proofs.Bits.{has-column, some-column}
 use Rattle.matrix_pivots.proofs.columns.Columns.has.Statement.{statement}
 use Rattle.matrix_pivots.proofs.columns.Columns.has.Tie as tie
 
-returns : tie.Need-returns
-returns c = says-no (λ h. omega (arith, h .column, c .if1 .taken))
+is-zero-row-requires : tie.Need-is-zero-row-requires
+is-zero-row-requires c κs = search needs
 
-sub-c : tie.Need-sub-c
-sub-c c = search needs
+returns : tie.Need-returns
+returns c = says-no (λ h. omega (arith, h .column, c .before .is-zero-row .ensures .0 (c .if1 .taken)))
+
+column-requires : tie.Need-column-requires
+column-requires c κs = some-column (denied (c .before .is-zero-row .ensures) (c .if1 .left))
 
 cast-c : tie.Need-cast-c
 cast-c c = search needs
@@ -22,7 +25,9 @@ shr-result c = search needs
 
 returns-2 : tie.Need-returns-2
 returns-2 c =
-    ((λ t. record { column = omega arith; set = has-bit _ .0 t }), (λ h. has-bit _ .1 (h .set)))
+    let column : tie.After-column = search needs in
+    let tested = column .before in
+    has-column _ _ _ (some-column (denied (tested .before .is-zero-row .ensures) (tested .if1 .left))) (column .column .ensures)
 
 pub has-spec : {M : Type 1} → statement M
-has-spec = tie.close (tie.spec returns sub-c cast-c cast-result shr-result returns-2)
+has-spec = tie.close (tie.spec is-zero-row-requires returns column-requires cast-c cast-result shr-result returns-2)
