@@ -1,2 +1,3 @@
-pub mod Cells
+pub mod Terms
 pub mod Lines
+pub mod Unique

@@ -1,14 +1,12 @@
-// Row and column operations on matrices of polynomials that stand in buffers. Room for copies is lent: no function has any of its own.
-ghost use mathlib.Core.Path.{_≡_};
-ghost use lib.ListN.{take};
-ghost use Rattle.theory_lists.specs.Part.{part};
-ghost use Rattle.matrix_buffers.specs.Place.{inRow, spot, spaced};
+// Row and column operations on matrices of polynomials that stand in buffers, straight in the buffer: no room is lent, and none made.
+ghost use Rattle.theory_lists.specs.Place.{spaced};
 ghost use Rattle.matrix_buffers.specs.Added.{CellsAdded, CellAdded, RowAdded, ColumnAdded};
 ghost use Rattle.matrix_buffers.specs.Diagonal.{Diagonal};
-ghost use Rattle.matrix_rows.specs.Asked.{Aside, RowPair, RowsInBuffer, CellPair, CellPairs, LinePair, Square};
+ghost use Rattle.matrix_rows.specs.Asked.{CellPair, CellPairs, RowsInBuffer, ColumnsInBuffer, Square};
 use poly::Modulus;
 use poly::Residue;
 use poly::arithmetic;
+use poly::polynomial;
 
 mod exchange;
 mod scale;
@@ -18,67 +16,11 @@ pub use exchange::exchange_rows;
 pub use scale::scale_column;
 pub use scale::scale_row;
 
-// c·x^e times a row is added to another, which lies apart from it. Only the lowest `top` places of a cell are read:
-// the caller knows that the others are zero, and time goes with the places that are read.
-fn add_to_row(
-    row: &mut [u16],
-    other: &[u16],
-    m: usize,
-    w: usize,
-    top: usize,
-    c: Residue,
-    e: usize,
-    md: Modulus,
-)
-    requires { ⌜ RowPair (md .p) (md .reciprocal) (c .0) e m w top (now row) (now other) ⌝ }
-    ensures { λ _. ⌜ CellsAdded (md .p) (c .0) e w m (inRow w) (inRow w) (now (other .entry)) (now (row .entry)) (now (row .exit)) ⌝ }
-{
-    let mut j = 0;
-    while j < m {
-        let start = j * w;
-        let end = start + w;
-        let used = start + top;
-        arithmetic::add_multiple(&mut row[start..end], &other[start..used], c, e, md);
-        j += 1;
-    }
-}
-
-// A part of a buffer is copied to the front of the room lent, for two parts of one buffer cannot be lent at once.
-fn set_aside(buf: &[u16], from: usize, size: usize, spare: &mut [u16])
-    requires { ⌜ Aside from size (now buf) (now spare) ⌝ }
-    ensures { λ _. ⌜ take size (now (spare .exit)) ≡ part from size (now (buf .entry)) ⌝ }
-{
-    let end = from + size;
-    arithmetic::copy(&buf[from..end], &mut spare[..size]);
-}
-
-// Row l takes c·x^e times row k: row k is set aside, and row l's part of the buffer is lent on.
-pub fn add_row(
-    buf: &mut [u16],
-    spare: &mut [u16],
-    l: usize,
-    k: usize,
-    m: usize,
-    w: usize,
-    top: usize,
-    c: Residue,
-    e: usize,
-    md: Modulus,
-)
-    requires { ⌜ RowsInBuffer (md .p) (md .reciprocal) (c .0) e m w top l k (now buf) (now spare) ⌝ }
-    ensures { λ _. ⌜ RowAdded (md .p) m w (c .0) e l k (now (buf .entry)) (now (buf .exit)) ⌝ }
-{
-    let size = m * w;
-    set_aside(buf, k * size, size, spare);
-    let start = l * size;
-    let end = start + size;
-    add_to_row(&mut buf[start..end], &spare[..size], m, w, top, c, e, md);
-}
-
-// The cell at `to` takes c·x^e times the cell at `from`, of which only the lowest `top` places are set aside and read.
+// The cell at `to` takes c·x^e times the cell at `from`, straight in the buffer. Two parts of one buffer cannot be lent at once: a
+// number of the one goes by value, and the other's part is lent on for each term. Only the lowest `top` places are read: the caller
+// knows that the others are zero, and time goes with the places that are in use.
 fn add_cell(
     buf: &mut [u16],
-    spare: &mut [u16],
     to: usize,
     from: usize,
     w: usize,
@@ -87,18 +29,23 @@ fn add_cell(
     e: usize,
     md: Modulus,
 )
-    requires { ⌜ CellPair (md .p) (md .reciprocal) (c .0) e w top to from (now buf) (now spare) ⌝ }
+    requires { ⌜ CellPair (md .p) (md .reciprocal) (c .0) e w top to from (now buf) ⌝ }
     ensures { λ _. ⌜ CellAdded (md .p) (c .0) e w to from (now (buf .entry)) (now (buf .entry)) (now (buf .exit)) ⌝ }
 {
-    set_aside(buf, from, top, spare);
+    let last = from + top;
+    let n = polynomial::used(&buf[from..last]);
     let end = to + w;
-    arithmetic::add_multiple(&mut buf[to..end], &spare[..top], c, e, md);
+    let mut i = 0;
+    while i < n {
+        let y = Residue::held(buf[from + i]);
+        arithmetic::add_at(&mut buf[to..end], e + i, y, c, md);
+        i += 1;
+    }
 }
 
 // The same for `count` pairs of cells, which follow one another at equal distances: the cells of two rows or of two columns.
 fn add_cells(
     buf: &mut [u16],
-    spare: &mut [u16],
     to: usize,
     from: usize,
     stride: usize,
@@ -109,41 +56,39 @@ fn add_cells(
     e: usize,
     md: Modulus,
 )
-    requires { ⌜ CellPairs (md .p) (md .reciprocal) (c .0) e w top to from stride count (now buf) (now spare) ⌝ }
+    requires { ⌜ CellPairs (md .p) (md .reciprocal) (c .0) e w top to from stride count (now buf) ⌝ }
     ensures { λ _. ⌜ CellsAdded (md .p) (c .0) e w count (spaced to stride) (spaced from stride) (now (buf .entry)) (now (buf .entry)) (now (buf .exit)) ⌝ }
 {
     let mut i = 0;
     while i < count {
         let done = i * stride;
-        add_cell(buf, spare, to + done, from + done, w, top, c, e, md);
+        add_cell(buf, to + done, from + done, w, top, c, e, md);
         i += 1;
     }
 }
 
-// Row l takes c·x^e times row k, for a matrix whose rows are longer than the room lent.
-pub fn add_row_by_cells(
-    u: &mut [u16],
-    spare: &mut [u16],
-    n: usize,
-    w: usize,
+// Row l takes c·x^e times row k.
+pub fn add_row(
+    buf: &mut [u16],
     l: usize,
     k: usize,
+    m: usize,
+    w: usize,
     top: usize,
     c: Residue,
     e: usize,
     md: Modulus,
 )
-    requires { ⌜ LinePair (md .p) (md .reciprocal) (c .0) e n w top l k (spot n w k) (now u) (now spare) ⌝ }
-    ensures { λ _. ⌜ RowAdded (md .p) n w (c .0) e l k (now (u .entry)) (now (u .exit)) ⌝ }
+    requires { ⌜ RowsInBuffer (md .p) (md .reciprocal) (c .0) e m w top l k (now buf) ⌝ }
+    ensures { λ _. ⌜ RowAdded (md .p) m w (c .0) e l k (now (buf .entry)) (now (buf .exit)) ⌝ }
 {
-    let size = n * w;
-    add_cells(u, spare, l * size, k * size, w, n, w, top, c, e, md);
+    let size = m * w;
+    add_cells(buf, l * size, k * size, w, m, w, top, c, e, md);
 }
 
 // Column x takes c·x^e times column y.
 pub fn add_column(
     v: &mut [u16],
-    spare: &mut [u16],
     n: usize,
     w: usize,
     x: usize,
@@ -153,11 +98,11 @@ pub fn add_column(
     e: usize,
     md: Modulus,
 )
-    requires { ⌜ LinePair (md .p) (md .reciprocal) (c .0) e n w top x y (λ i. spot n w i y) (now v) (now spare) ⌝ }
+    requires { ⌜ ColumnsInBuffer (md .p) (md .reciprocal) (c .0) e n w top x y (now v) ⌝ }
     ensures { λ _. ⌜ ColumnAdded (md .p) n w (c .0) e x y (now (v .entry)) (now (v .exit)) ⌝ }
 {
     let size = n * w;
-    add_cells(v, spare, x * w, y * w, size, n, w, top, c, e, md);
+    add_cells(v, x * w, y * w, size, n, w, top, c, e, md);
 }
 
 // The identity: zeros, and then a one in each row.
@@ -166,10 +111,11 @@ pub fn write_identity(u: &mut [u16], n: usize, w: usize)
     ensures { λ _. ⌜ Diagonal n w (now (u .exit)) ⌝ }
 {
     arithmetic::clear(u);
+    let one = Residue::ONE.number();
     let mut i = 0;
     while i < n {
         let at = i * (n * w) + i * w;
-        u[at] = 1;
+        u[at] = one;
         i += 1;
     }
 }

@@ -1,6 +1,6 @@
 // A row or a column is multiplied by a residue, in place.
 ghost use Prim.Native.Nat.{_*_};
-ghost use Rattle.matrix_buffers.specs.Place.{spaced};
+ghost use Rattle.theory_lists.specs.Place.{spaced};
 ghost use Rattle.matrix_buffers.specs.Scaled.{CellsScaled, CellScaled, RowScaled, ColumnScaled};
 ghost use Rattle.matrix_rows.specs.scale.Asked.{PartToScale, CellsToScale, ColumnToScale};
 use poly::Modulus;

@@ -1,80 +1,100 @@
 use borrow.Author.Needs.{needs}
 use native.Mathlib.Omega.{arith}
-use mathlib.Core.Path.{_≡_, sym}
-use mathlib.Core.List.{List, _++_}
-use Prim.Native.Nat.{ℕ, _+_, _-_}
-use lib.ListN.{take, drop}
-use lib.Seq.{length-take-le}
-use Rattle.theory_lists.specs.Part.{part}
-use Rattle.theory_lists.proofs.Part.{length-part}
-use Rattle.poly.specs.arithmetic.Operations.{plusMultiple, MultipleAsked}
-use Rattle.matrix_buffers.specs.Added.{CellAdded}
-use Rattle.matrix_rows.specs.Asked.{CellPair}
-use Rattle.matrix_rows.proofs.Cells.{shifted-part, cell-lent, cell-back}
+use Prim.Native.Nat.{_-_}
+use Rattle.matrix_buffers.proofs.CellByCell.{writing-start}
+use Rattle.matrix_rows.proofs.Terms.{Adding, term-asked, term-turn, terms-end}
 use Rattle.matrix_rows.proofs.add_cell.Statement.{statement}
 use Rattle.matrix_rows.proofs.add_cell.Tie as tie
 
--- the cell at `from` stands in front of the room as well
-module _ (p reciprocal c e w top to from : ℕ) (b spare room : List ℕ) (pre : CellPair p reciprocal c e w top to from b spare)
-    (aside : take top room ≡ part from top b) where
-  lent : MultipleAsked p reciprocal c e (take (to + w - to) (drop to b)) (take top room)
-  lent = rw aside (cell-lent p reciprocal c e w top to b _ (pre .to-fits) (pre .multiplier) (pre .to-residues) (pre .from-residues)
-      (length-part from top b (pre .from-fits)))
+-- The first i terms are added, and no other place has changed. The terms that are left fall.
+abbrev Inv-loop : tie.InvT-loop
+Inv-loop buf₀ to from w top c e md last n end i₀ buf i = Adding (md .p) (c .0) e to from n buf₀ buf i
 
-  back : (new : List ℕ) → new ≡ plusMultiple p c e (take top room) (take (to + w - to) (drop to b))
-      → CellAdded p c e w to from b b (take to b ++ (new ++ drop (to + w - to) (drop to b)))
-  back new new-is = cell-back p reciprocal c e w top to b _ (pre .to-fits) from b
-      (shifted-part e w top from b (pre .from-fits) (pre .short)) new (rw aside at new-is)
+abbrev μ-loop : tie.MeasureT-loop
+μ-loop buf₀ to from w top c e md last n end i₀ buf i = n - i
 
-set-aside-requires : tie.Need-set-aside-requires
-set-aside-requires c κs = search needs
+add-last : tie.Need-add-last Inv-loop μ-loop
+add-last c = search needs
 
-add-end : tie.Need-add-end
+mul-used : tie.Need-mul-used Inv-loop μ-loop
+mul-used c = search needs
+
+sub-used : tie.Need-sub-used Inv-loop μ-loop
+sub-used c = search needs
+
+part-used-start : tie.Need-part-used-start Inv-loop μ-loop
+part-used-start c = search needs
+
+part-used-end : tie.Need-part-used-end Inv-loop μ-loop
+part-used-end c = search needs
+
+used-requires : tie.Need-used-requires Inv-loop μ-loop
+used-requires c κs = search needs
+
+add-end : tie.Need-add-end Inv-loop μ-loop
 add-end c = search needs
 
-mul-add-multiple : tie.Need-mul-add-multiple
-mul-add-multiple c = search needs
+loop-holds : tie.Need-loop-holds Inv-loop μ-loop
+loop-holds c = writing-start
 
-sub-add-multiple : tie.Need-sub-add-multiple
-sub-add-multiple c = search needs
+add-held : tie.Need-add-held Inv-loop μ-loop
+add-held c = search needs
 
-part-add-multiple-start : tie.Need-part-add-multiple-start
-part-add-multiple-start c = search needs
+mul-held : tie.Need-mul-held Inv-loop μ-loop
+mul-held c = search needs
 
-part-add-multiple-end : tie.Need-part-add-multiple-end
-part-add-multiple-end c = search needs
+slice-read-held : tie.Need-slice-read-held Inv-loop μ-loop
+slice-read-held c = search needs
 
-slice-reshare-prefix-add-multiple : tie.Need-slice-reshare-prefix-add-multiple
-slice-reshare-prefix-add-multiple c = search needs
+held-requires : tie.Need-held-requires Inv-loop μ-loop
+held-requires c κs = search needs
 
-slice-aggregate-add-multiple : tie.Need-slice-aggregate-add-multiple
-slice-aggregate-add-multiple c = sym (length-take-le _ _ (omega arith))
+mul-add-at : tie.Need-mul-add-at Inv-loop μ-loop
+mul-add-at c = search needs
 
-add-multiple-requires : tie.Need-add-multiple-requires
-add-multiple-requires c κs = search (needs, lent)
+sub-add-at : tie.Need-sub-add-at Inv-loop μ-loop
+sub-add-at c = search needs
 
-same-length : tie.Need-same-length
+part-add-at-start : tie.Need-part-add-at-start Inv-loop μ-loop
+part-add-at-start c = search needs
+
+part-add-at-end : tie.Need-part-add-at-end Inv-loop μ-loop
+part-add-at-end c = search needs
+
+add-add-at : tie.Need-add-add-at Inv-loop μ-loop
+add-add-at c = search needs
+
+add-at-requires : tie.Need-add-at-requires Inv-loop μ-loop
+add-at-requires c κs = search (needs, term-asked)
+
+add-i : tie.Need-add-i Inv-loop μ-loop
+add-i c = search needs
+
+loop-less : tie.Need-loop-less Inv-loop μ-loop
+loop-less c = search needs
+
+loop-again : tie.Need-loop-again Inv-loop μ-loop
+loop-again c =
+    let head : tie.At-loop Inv-loop μ-loop = search needs in
+    let call : tie.After-add-at Inv-loop μ-loop = search needs in
+    let start : tie.Start Inv-loop μ-loop = search needs in
+    let found : tie.After-used Inv-loop μ-loop = search needs in
+    let read : tie.After-held Inv-loop μ-loop = search needs in
+    term-turn _ _ _ _ _ _ _ _ _ _ (start .pre) (found .used .ensures .0) _ _ _ (head .loop .inv) (omega arith) (read .held .ensures)
+    _ (call .add-at .ensures)
+
+same-length : tie.Need-same-length Inv-loop μ-loop
 same-length c = search needs
 
-same-length-2 : tie.Need-same-length-2
-same-length-2 c = search needs
-
-returns : tie.Need-returns
-returns c = search (needs, back)
+returns : tie.Need-returns Inv-loop μ-loop
+returns c =
+    let start : tie.Start Inv-loop μ-loop = search needs in
+    let found : tie.After-used Inv-loop μ-loop = search needs in
+    terms-end _ _ _ _ _ _ _ _ _ _ (start .pre) (found .used .ensures .0) _ _ (c .before .loop .inv) (omega arith)
 
 pub add-cell-spec : {M : Type 1} → statement M
 add-cell-spec =
     tie.close
-    (tie.spec
-    set-aside-requires
-    add-end
-    mul-add-multiple
-    sub-add-multiple
-    part-add-multiple-start
-    part-add-multiple-end
-    slice-reshare-prefix-add-multiple
-    slice-aggregate-add-multiple
-    add-multiple-requires
-    same-length
-    same-length-2
-    returns)
+    (tie.spec Inv-loop μ-loop add-last mul-used sub-used part-used-start part-used-end used-requires add-end
+    loop-holds add-held mul-held slice-read-held held-requires mul-add-at sub-add-at part-add-at-start part-add-at-end
+    add-add-at add-at-requires add-i loop-less loop-again same-length returns)

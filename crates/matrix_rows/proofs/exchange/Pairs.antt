@@ -5,7 +5,7 @@ use Prim.Native.Nat.{ℕ, suc, _+_, _<_}
 use native.Mathlib.Omega.{arith}
 use lib.ListN.{getD}
 use Rattle.theory_algebra.proofs.Cases.{case-le}
-use Rattle.matrix_buffers.specs.Place.{Outside}
+use Rattle.theory_lists.specs.Place.{Outside}
 use Rattle.matrix_buffers.specs.Exchanged.{CellsExchanged}
 
 pub none-exchanged : {w : ℕ} {one other : ℕ → ℕ → ℕ} {b : List ℕ} → CellsExchanged w 0 one other b b

@@ -8,10 +8,10 @@ use lib.Seq.{getD-set-same, getD-set-other}
 use Rattle.theory_algebra.proofs.Cases.{case-le}
 use Rattle.theory_lists.proofs.Change.{length-imap, getD-imap-every}
 use Rattle.poly.specs.arithmetic.Operations.{zeros}
-use Rattle.matrix_buffers.specs.Place.{spot}
+use Rattle.theory_lists.specs.Place.{spot}
 use Rattle.matrix_buffers.specs.Diagonal.{Ones}
 use Rattle.theory_lists.proofs.Grid.{line-end}
-use Rattle.matrix_buffers.proofs.Place.{spot-inside, spot-own}
+use Rattle.theory_lists.proofs.Place.{spot-inside, spot-own}
 use Rattle.matrix_rows.proofs.write_identity.Statement.{statement}
 use Rattle.matrix_rows.proofs.write_identity.Tie as tie
 
@@ -34,13 +34,13 @@ module _ (n w : ℕ) (u : List ℕ) (i : ℕ) (now : WritingOnes n w u i) (li : 
   inside : (spot n w i i 0 < length u) × (n * w ≤ length u)
   inside = (omega (arith, now .done .size, spot-inside n n w i i 0 li li (now .some)), omega (arith, now .done .size, line-end i n (n * w) li))
 
-  turn : (at : ℕ) → at ≡ spot n w i i 0 → WritingOnes n w (set u at 1) (i + 1)
-  turn at at-is =
+  turn : (at x : ℕ) → at ≡ spot n w i i 0 → x ≡ 1 → WritingOnes n w (set u at x) (i + 1)
+  turn at x at-is x-is =
       let some = now .some in
       record {
         reached = omega arith;
         some = some;
-        done = rw at-is (record {
+        done = rw (at-is, x-is) (record {
           size = length-set u _ 1 ∙ now .done .size;
           one = λ j lj. case-le (suc j) i
               (λ before. getD-set-other u _ _ 1 0 (λ same. omega (arith, spot-own n w j j 0 i i 0 (omega arith) some li some same .0))
@@ -50,19 +50,24 @@ module _ (n w : ℕ) (u : List ℕ) (i : ℕ) (now : WritingOnes n w u i) (li : 
         });
       }
 
+-- The ones of the rows before i are written, and every other place is zero. The rows that are left fall.
 abbrev Inv-loop : tie.InvT-loop
-Inv-loop u₀ n w i₀ u i = WritingOnes n w u i
+Inv-loop u₀ n w one i₀ u i = WritingOnes n w u i
 
 abbrev μ-loop : tie.MeasureT-loop
-μ-loop u₀ n w i₀ u i = n - i
+μ-loop u₀ n w one i₀ u i = n - i
 
 clear-requires : tie.Need-clear-requires Inv-loop μ-loop
 clear-requires c κs = search needs
 
+number-requires : tie.Need-number-requires Inv-loop μ-loop
+number-requires c κs = search needs
+
 loop-holds : tie.Need-loop-holds Inv-loop μ-loop
 loop-holds c =
     let start : tie.Start Inv-loop μ-loop = search needs in
-    record { reached = omega arith; some = start .pre .some; done = cleared _ _ _ _ (start .pre .size) (c .before .before .clear .ensures) }
+    let cleared-first : tie.After-clear Inv-loop μ-loop = search needs in
+    record { reached = omega arith; some = start .pre .some; done = cleared _ _ _ _ (start .pre .size) (cleared-first .clear .ensures) }
 
 mul-at : tie.Need-mul-at Inv-loop μ-loop
 mul-at c = omega (arith, inside _ _ _ _ (c .before .loop .inv) (c .loop-test .taken))
@@ -89,7 +94,9 @@ loop-less : tie.Need-loop-less Inv-loop μ-loop
 loop-less c = omega (arith, inside _ _ _ _ (c .before .loop .inv) (c .loop-test .taken))
 
 loop-again : tie.Need-loop-again Inv-loop μ-loop
-loop-again c = turn _ _ _ _ (c .before .loop .inv) (c .loop-test .taken) _ (omega arith)
+loop-again c =
+    let one : tie.After-number Inv-loop μ-loop = search needs in
+    turn _ _ _ _ (c .before .loop .inv) (c .loop-test .taken) _ _ (omega arith) (one .number .ensures)
 
 same-length : tie.Need-same-length Inv-loop μ-loop
 same-length c = search needs
@@ -107,6 +114,7 @@ write-identity-spec =
     Inv-loop
     μ-loop
     clear-requires
+    number-requires
     loop-holds
     mul-at
     mul-at-2

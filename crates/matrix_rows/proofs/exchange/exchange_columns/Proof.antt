@@ -4,9 +4,9 @@ use mathlib.Core.Path.{_≡_}
 use mathlib.Core.List.{List}
 use Prim.Native.Nat.{ℕ, _+_, _*_, _-_, _≤_, _<_}
 use native.Mathlib.Nat as N
-use Rattle.matrix_buffers.specs.Place.{spot, Outside}
+use Rattle.theory_lists.specs.Place.{spot, Outside}
 use Rattle.matrix_buffers.specs.Exchanged.{CellsExchanged}
-use Rattle.matrix_buffers.proofs.Place.{spot-own, cell-ends}
+use Rattle.theory_lists.proofs.Place.{spot-own, cell-ends}
 use Rattle.matrix_rows.specs.exchange.Asked.{TwoParts, TwoColumns}
 use Rattle.matrix_rows.proofs.exchange.Pairs.{none-exchanged, next-exchanged}
 use Rattle.matrix_rows.proofs.exchange.exchange_columns.Statement.{statement}
@@ -32,6 +32,7 @@ module _ (n w x y : ℕ) (v₀ v : List ℕ) (pre : TwoColumns n w x y v₀) (i 
       (λ t lt. (away x x t (pre .x-fits) (pre .x-fits) lt, away x y t (pre .x-fits) (pre .y-fits) lt))
       (λ t lt. (away y x t (pre .y-fits) (pre .x-fits) lt, away y y t (pre .y-fits) (pre .y-fits) lt)) done
 
+-- The first i pairs of cells are exchanged, and no other place has changed. The rows that are left fall.
 abbrev Inv-loop : tie.InvT-loop
 Inv-loop v₀ n w x y i₀ v i = (i ≤ n) × CellsExchanged w i (λ j. spot n w j x) (λ j. spot n w j y) v₀ v
 

@@ -57,6 +57,7 @@ whole size one other b₀ b d = record {
   others = λ x outside outside′. d .others x (λ t _ lt _. outside 0 t (omega arith) lt) (λ t _ lt _. outside′ 0 t (omega arith) lt);
 }
 
+-- The first t places of the two parts are exchanged, and no other place has changed. The places that are left fall.
 abbrev Inv-loop : tie.InvT-loop
 Inv-loop buf₀ one other size t₀ buf t = (t ≤ size) × Exchanging t one other buf₀ buf
 

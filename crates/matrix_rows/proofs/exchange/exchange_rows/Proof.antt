@@ -3,9 +3,9 @@ use native.Mathlib.Omega.{arith}
 use mathlib.Core.List.{List}
 use Prim.Native.Nat.{ℕ, _*_}
 use Rattle.theory_lists.proofs.Grid.{within}
-use Rattle.matrix_buffers.specs.Place.{inRow}
+use Rattle.theory_lists.specs.Place.{inRow}
 use Rattle.matrix_buffers.specs.Exchanged.{CellExchanged, RowsExchanged}
-use Rattle.matrix_buffers.proofs.Place.{block-own, row-outside}
+use Rattle.theory_lists.proofs.Place.{block-own, row-outside}
 use Rattle.matrix_rows.specs.exchange.Asked.{TwoParts, TwoRows}
 use Rattle.matrix_rows.proofs.exchange.exchange_rows.Statement.{statement}
 use Rattle.matrix_rows.proofs.exchange.exchange_rows.Tie as tie

@@ -4,9 +4,9 @@ use mathlib.Core.Logic.{_≢_}
 use mathlib.Core.List.{List}
 use Prim.Native.Nat.{ℕ, _+_, _*_, _-_, _%_, _<_}
 use lib.ListN.{getD}
-use Rattle.matrix_buffers.specs.Place.{spaced}
+use Rattle.theory_lists.specs.Place.{spaced}
 use Rattle.matrix_buffers.specs.Scaled.{CellScaled}
-use Rattle.matrix_buffers.proofs.Place.{spaced-apart}
+use Rattle.theory_lists.proofs.Place.{spaced-apart}
 use Rattle.matrix_buffers.proofs.CellByCell.{next-kept, Writing, writing-start, writing-end, writing-turn}
 use Rattle.matrix_rows.specs.scale.Asked.{PartToScale, CellsToScale}
 use Rattle.matrix_rows.proofs.scale.scale_cells.Statement.{statement}
@@ -28,6 +28,7 @@ module _ (p reciprocal c w start stride count : ℕ) (b₀ b : List ℕ) (pre : 
   turn : (b′ : List ℕ) → CellScaled p c w (start + i * stride) b b′ → Scaling p c w start stride count b₀ b′ (i + 1)
   turn b′ = writing-turn now li apart (λ t lt. ap (λ (y : ℕ). c * y % p) (next-kept apart (now .done) t lt))
 
+-- The first i cells are multiplied, and no other place has changed. The cells that are left fall.
 abbrev Inv-loop : tie.InvT-loop
 Inv-loop buf₀ start stride count w c md i₀ buf i = Scaling (md .p) (c .0) w start stride count buf₀ buf i
 

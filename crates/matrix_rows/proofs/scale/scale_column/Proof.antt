@@ -3,9 +3,9 @@ use native.Mathlib.Omega.{arith}
 use mathlib.Core.Path.{subst}
 use mathlib.Core.List.{List}
 use Prim.Native.Nat.{ℕ, _*_}
-use Rattle.matrix_buffers.specs.Place.{spaced}
+use Rattle.theory_lists.specs.Place.{spaced}
 use Rattle.matrix_buffers.specs.Scaled.{CellsScaled, ColumnScaled}
-use Rattle.matrix_buffers.proofs.Place.{columns-spaced, cell-ends}
+use Rattle.theory_lists.proofs.Place.{columns-spaced, cell-ends}
 use Rattle.matrix_rows.specs.scale.Asked.{CellsToScale, ColumnToScale}
 use Rattle.matrix_rows.proofs.scale.scale_column.Statement.{statement}
 use Rattle.matrix_rows.proofs.scale.scale_column.Tie as tie

@@ -4,9 +4,9 @@ use mathlib.Core.Path.{subst}
 use mathlib.Core.List.{List}
 use Prim.Native.Nat.{ℕ, _*_}
 use Rattle.theory_lists.proofs.Grid.{line-end}
-use Rattle.matrix_buffers.specs.Place.{spaced}
+use Rattle.theory_lists.specs.Place.{spaced}
 use Rattle.matrix_buffers.specs.Scaled.{CellsScaled, RowScaled}
-use Rattle.matrix_buffers.proofs.Place.{rows-spaced}
+use Rattle.theory_lists.proofs.Place.{rows-spaced}
 use Rattle.matrix_rows.specs.scale.Asked.{PartToScale, CellsToScale}
 use Rattle.matrix_rows.proofs.scale.scale_row.Statement.{statement}
 use Rattle.matrix_rows.proofs.scale.scale_row.Tie as tie
