@@ -1,6 +1,4 @@
-pub mod Found
 pub mod Loop
-pub mod Repeating
+pub mod Alone
+pub mod Transforms
 pub mod NonzeroRows
-pub mod Whole
-pub mod SingleStep

@@ -1,156 +1,194 @@
--- The loop of the reduction: what is true of the buffers before every step and after the last.
-use mathlib.Core.Path.{_≡_, sym, ap, subst}
+-- The law of every loop over the steps of the reduction, whatever follows the matrix: the steps that lead on from where it stands lead on
+-- from the beginning, and the sum of the values falls.
+use mathlib.Core.Path.{_≡_, refl, sym, ap, subst, _∙_}
 use mathlib.Core.List.{List}
-use Prim.Native.Nat.{ℕ, suc, _+_, _-_, _*_, _≤_, _<_}
+use Prim.Native.Nat.{ℕ, zero, suc, _+_, _*_, _≤_, _<_}
 use native.Mathlib.Omega.{arith}
 use native.Mathlib.Nat as N
-use lib.ListN.{getD}
+use lib.ListN.{length, getD, set, length-set}
 use Rattle.theory_algebra.specs.Field.{Field}
 use Rattle.theory_algebra.specs.Prime.{Prime}
 use Rattle.theory_algebra.specs.Residue.{Zp}
-use Rattle.theory_algebra.proofs.PrimeField.{zp-field}
+use Rattle.theory_rings.specs.PrimeField.{zp-field}
 use Rattle.theory_lattice.specs.Row.{Row}
-use Rattle.theory_lattice.specs.PolynomialMatrix.{AllBounded}
 use Rattle.theory_lists.specs.Total.{total}
 use Rattle.theory_lists.proofs.Total.{total-same}
-use Rattle.matrix_buffers.specs.Place.{spot}
-use Rattle.matrix_buffers.specs.Held.{Held, matrixOf}
-use Rattle.matrix_buffers.specs.Bounds.{Bounds, Checked}
-use Rattle.matrix_buffers.specs.Diagonal.{Diagonal}
-use Rattle.matrix_buffers.proofs.Place.{by-rows}
-use Rattle.matrix_buffers.proofs.Held.{held-matrixOf, held-bounded}
-use Rattle.matrix_buffers.proofs.Diagonal.{held-identity}
-use Rattle.matrix_rows.specs.Asked.{Short}
-use Rattle.theory_reduction.specs.Pivot.{value, values, height}
+use Rattle.theory_reduction.specs.Pivot.{values, index}
 use Rattle.theory_reduction.specs.Pair.{Pair, NoPair, target, StepRows}
 use Rattle.theory_reduction.specs.Step.{Carried, begin, advance}
 use Rattle.theory_reduction.specs.Process.{halt, more}
 use Rattle.theory_reduction.specs.Run.{advance-pair, Runs}
-use Rattle.theory_reduction.proofs.Index.{height-pos}
+use Rattle.theory_reduction.specs.Rank.{sign, chosen, rank}
 use Rattle.theory_reduction.proofs.Pair.{pair-rows, no-pair-same, pair-same}
-use Rattle.theory_reduction.proofs.Degrees.{D, spent-since, Narrow, narrow-start}
-use Rattle.matrix_pivots.specs.Pivot.{valuesOf, degreesOf, Pivots}
-use Rattle.matrix_reduction.specs.first_step.Holding.{Holding}
-use Rattle.matrix_reduction.specs.first_step.Subtraction.{FirstMove}
-use Rattle.matrix_reduction.specs.Reduced.{ReducedBy}
-use Rattle.matrix_reduction.proofs.first_step.Value.{value-held}
-use Rattle.matrix_reduction.proofs.first_step.Moving.{height-is, step-falls, move-narrow, move-holding}
-use Rattle.matrix_reduction.proofs.first_step.Short.{u-short, v-short, spent-fits}
+use Rattle.matrix_promises.specs.Held.{Held, matrixOf}
+use Rattle.matrix_promises.specs.Layout.{by-rows}
+use Rattle.matrix_promises.proofs.Held.{held-matrixOf, held-coefficients}
+use Rattle.matrix_buffers.specs.Bounds.{Checked}
+use Rattle.matrix_buffers.proofs.Bounds.{matrix-few}
+use Rattle.matrix_pivots.specs.NextPair.{NextAsked, IsNextOf}
+use Rattle.matrix_pivots.specs.Pivot.{valuesOf, zeroRow, indexAt, Pivots, AllPivots}
+use Rattle.matrix_pivots.specs.declared.pivot.Pivot.{Pivot}
+use Rattle.matrix_pivots.specs.declared.next_pair.Next.the-variants.{Rows}
+use Rattle.matrix_pivots.proofs.NextPair as Next
+use Rattle.matrix_steps.specs.Asked.{LowerAsked}
+use Rattle.matrix_steps.specs.Subtraction.{IsLowered}
+use Rattle.matrix_steps.specs.declared.Lowered.{Lowered}
+use Rattle.matrix_steps.proofs.Value.{value-held, values-total}
+use Rattle.matrix_steps.proofs.Moving.{step-held, step-falls}
+use Rattle.matrix_steps.proofs.RowsOf as RowsOf
 
--- what is true after `count` steps on the matrix in a: the buffers hold a state t within the bounds on the degrees,
--- and the steps that lead on from t lead on from the beginning, `count` more of them
-pub record LoopAt (p : ℕ) (P : Prime p) (some : 0 < p) (n m w : ℕ) (a r u v : List ℕ) (count : ℕ) : Type 0 where
-  pub t : Carried (Zp p)
-  pub holding : Holding p n m w r u v t
-  pub narrow : Narrow (zp-field p P) n m w (matrixOf (by-rows n m w) p some a) t
-  pub onward : (c : ℕ) (s : Carried (Zp p)) → Runs (zp-field p P) n m w c t s
-      → Runs (zp-field p P) n m w (count + c) (begin (zp-field p P .ring) (matrixOf (by-rows n m w) p some a)) s
-
-module _ {p reciprocal n m w : ℕ} {a : List ℕ} (input : Checked p reciprocal n m w a) (P : Prime p) (some : 0 < p) where
-  open Bounds (input .bounds) using (rows, columns, places)
-
+-- r holds the matrix of a state: its values are those of the matrix, and so are its pair and the step
+module _ {p : ℕ} (P : Prime p) {n m w : ℕ} (columns : 0 < m) (t : Carried (Zp p)) {r : List ℕ}
+    (held : Held (by-rows n m w) p r (t .R)) where
   abbrev K : Field (Zp p)
   K = zp-field p P
 
-  abbrev A : ℕ → Row (Zp p)
-  A = matrixOf (by-rows n m w) p some a
+  agree : (i : ℕ) → i < n → valuesOf m w r i ≡ values K m w (t .R) i
+  agree i li = sym (value-held p P n m w held columns i li)
 
-  first : Held (by-rows n m w) p a A
-  first = held-matrixOf (by-rows n m w) p some a (input .size) (input .residues)
+  pub at-end : NoPair n m (valuesOf m w r) → NoPair n m (values K m w (t .R))
+  at-end = no-pair-same n m _ _ agree
 
-  bounded : AllBounded (K .ring) n m w A
-  bounded = held-bounded (by-rows n m w) p P first
+  module _ {l k : ℕ} (next : IsNextOf n m (valuesOf m w r) (Rows l k)) where
+    the-pair : (q : Pair n m (values K m w (t .R))) × (target m (values K m w (t .R)) (q .a) (q .b) ≡ (l, k))
+    the-pair = pair-same n m _ _ agree (next .0) (l, k) (next .1)
 
-  pub loop-start : {u v : List ℕ} → Diagonal n (n * w) u → Diagonal n w v → LoopAt p P some n m w a a u v 0
-  loop-start du dv = record {
-    t = begin (K .ring) A;
-    holding = record {
-      R = first;
-      U = held-identity p P n (n * w) (N.mul-pos rows places) du;
-      V′ = held-identity p P n w places dv;
+    pub pair-held : Pair n m (values K m w (t .R))
+    pair-held = the-pair .0
+
+    pub rows-held : StepRows n m (values K m w (t .R)) l k
+    rows-held = pair-rows (the-pair .0) (the-pair .1)
+
+    pub applied : advance-pair K n m w t pair-held ≡ advance K m w l k t
+    unfolding advance-pair pair-held
+    applied = ap (λ (x : ℕ × ℕ). advance K m w (x .0) (x .1) t) (the-pair .1)
+
+-- after `count` steps on the matrix in a: r holds the matrix of a state t, the steps that lead on from t lead on from the beginning,
+-- `count` more of them, and what else is kept is kept of t
+pub record Onward (p : ℕ) (P : Prime p) (some : 0 < p) (n m w : ℕ) (a r : List ℕ) (count : ℕ)
+    (Also : Carried (Zp p) → Type 0) : Type 0 where
+  pub t : Carried (Zp p)
+  pub held : Held (by-rows n m w) p r (t .R)
+  pub onward : (c : ℕ) (s : Carried (Zp p)) → Runs (zp-field p P) n m w c t s
+      → Runs (zp-field p P) n m w (count + c) (begin (zp-field p P .ring) (matrixOf (by-rows n m w) p some a)) s
+  pub also : Also t
+
+-- what else is kept, whatever proof of primality is in hand
+abbrev pub Kept : ℕ → Type 1
+Kept p = (P : Prime p) (some : 0 < p) → Carried (Zp p) → Type 0
+
+-- at the loop's head
+pub record Going (p n m w : ℕ) (Also : Kept p) (a r : List ℕ) (pivots : List Pivot) (count : ℕ) : Type 0 where
+  pub r-same : length r ≡ length a
+  pub room : length pivots ≡ 8
+  pub found : Pivots n m (valuesOf m w r) pivots
+  pub at : (P : Prime p) (some : 0 < p) → Onward p P some n m w a r count (Also P some)
+  pub budget : count + total n (valuesOf m w r) ≤ total n (valuesOf m w a)
+
+-- a pivot index is 0 where the row's value is
+sign-index : (m v : ℕ) → sign (index m v) ≡ sign v
+unfolding index
+sign-index m zero = refl
+sign-index m (suc v) = refl
+
+module _ {p reciprocal n m w : ℕ} {a : List ℕ} (input : Checked p reciprocal n m w a) where
+  open Checked input using (ready, prime, bounds)
+
+  pub positive : 0 < p
+  positive = omega (arith, prime .two)
+
+  abbrev A : (some : 0 < p) → ℕ → Row (Zp p)
+  A some = matrixOf (by-rows n m w) p some a
+
+  pub first : (some : 0 < p) → Held (by-rows n m w) p a (A some)
+  first some = held-matrixOf (by-rows n m w) p some a (input .size) (input .residues)
+
+  pub going-start : {Also : Kept p} {pivots : List Pivot}
+      → ((P : Prime p) (some : 0 < p) → Also P some (begin (zp-field p P .ring) (A some)))
+      → AllPivots n m (valuesOf m w a) pivots → Going p n m w Also a a pivots 0
+  going-start also all = record {
+    r-same = refl;
+    room = all .size;
+    found = all .pivots-are;
+    at = λ P some. record {
+      t = begin (zp-field p P .ring) (A some);
+      held = first some;
+      onward = λ c s x. rw N.zero-add x;
+      also = also P some;
     };
-    narrow = narrow-start K n m w A;
-    onward = λ c s x. rw N.zero-add x;
+    budget = omega arith;
   }
 
-  module _ {r u v : List ℕ} {count : ℕ} (inv : LoopAt p P some n m w a r u v count) where
-    abbrev R : ℕ → Row (Zp p)
-    R = inv .t .R
+  module _ {Also : Kept p} {r : List ℕ} {pivots : List Pivot} {count : ℕ} (inv : Going p n m w Also a r pivots count) where
+    pub size : length r ≡ n * (m * w)
+    size = inv .r-same ∙ input .size
 
-    agree : (i : ℕ) → i < n → valuesOf m w r i ≡ values K m w R i
-    agree i li = sym (value-held p P n m w (inv .holding .R) columns i li)
+    -- the counter fits
+    pub count-fits : count ≤ 4096
+    count-fits = omega (arith, inv .budget, values-total m w a n, matrix-few bounds, ap (λ (x : ℕ). n * x) (N.mul-comm w m))
 
-    -- where no step applies, the reduction is made
-    pub loop-last : NoPair n m (valuesOf m w r) → ReducedBy p P some n m w count a r u v
-    loop-last h = record {
-      t = inv .t;
-      runs = rw N.add-zero at (inv .onward 0 (inv .t) (halt (no-pair-same n m _ _ agree h)));
-      holding = inv .holding;
-    }
+    pub next-asked : NextAsked n pivots
+    next-asked = Next.next-asked (bounds .rows-most) (bounds .columns) (bounds .columns-most) (inv .found)
 
-    module _ {indices degrees : List ℕ} (pivots : Pivots n m (valuesOf m w r) indices degrees) where
-      -- a step
-      module _ (q : Pair n m (valuesOf m w r)) {l k : ℕ} (e : target m (valuesOf m w r) (q .a) (q .b) ≡ (l, k))
-          {r′ u′ v′ : List ℕ} (d : FirstMove p n m w l k r u v indices degrees r′ u′ v′) where
-        abbrev t′ : Carried (Zp p)
-        t′ = advance K m w l k (inv .t)
+    -- where no step applies, the reduction is made, and the pivots tell the rank
+    module _ (P : Prime p) (some : 0 < p) where
+      abbrev t : Carried (Zp p)
+      t = inv .at P some .t
 
-        the-pair : (q′ : Pair n m (values K m w R)) × (target m (values K m w R) (q′ .a) (q′ .b) ≡ (l, k))
-        the-pair = pair-same n m _ _ agree q (l, k) e
+      pub going-last : NoPair n m (valuesOf m w r) → Runs (zp-field p P) n m w count (begin (zp-field p P .ring) (A some)) t
+      going-last none = rw N.add-zero at (inv .at P some .onward 0 t (halt (at-end P (bounds .columns) t (inv .at P some .held) none)))
 
-        reducing : StepRows n m (values K m w R) l k
-        reducing = pair-rows (the-pair .0) (the-pair .1)
+      pub rank-is : chosen n (indexAt pivots) ≡ rank (zp-field p P) n m w (t .R)
+      rank-is = total-same n _ _ (λ i l. ap sign (inv .found .row i l .index-is) ∙ sign-index m (valuesOf m w r i)
+          ∙ ap sign (agree P (bounds .columns) t (inv .at P some .held) i l))
 
-        applied : advance-pair K n m w (inv .t) (the-pair .0) ≡ t′
-        unfolding advance-pair
-        applied = ap (λ (x : ℕ × ℕ). advance K m w (x .0) (x .1) (inv .t)) (the-pair .1)
+    -- a turn of the loop: rows l and k are to be reduced
+    module _ {l k : ℕ} (next : IsNextOf n m (valuesOf m w r) (Rows l k)) where
+      abbrev high : Pivot
+      high = getD pivots l zeroRow
 
-        holds : Holding p n m w r′ u′ v′ t′
-        holds = move-holding p P n m w columns A bounded places r u v indices degrees r′ u′ v′ (inv .t) (inv .holding) (inv .narrow) pivots l k reducing d
+      abbrev low : Pivot
+      low = getD pivots k zeroRow
 
-        pub loop-turn : LoopAt p P some n m w a r′ u′ v′ (count + 1)
-        loop-turn = record {
-          t = t′;
-          holding = holds;
-          narrow = move-narrow p P n m w columns A bounded places r u v indices degrees r′ u′ v′ (inv .t) (inv .holding) (inv .narrow) pivots l k reducing d;
-          onward = λ c s x. subst (λ (y : ℕ). Runs K n m w y (begin (K .ring) A) s) (shift c)
-              (inv .onward (suc c) s (more (the-pair .0) (rw applied x)));
+      pub reducing : StepRows n m (valuesOf m w r) l k
+      reducing = pair-rows (next .0) (next .1)
+
+      -- both rows have their place among eight
+      pub rows-fit : (l < 8) × (k < 8)
+      rows-fit = (omega (arith, reducing .l-fits, bounds .rows-most), omega (arith, reducing .k-fits, bounds .rows-most))
+
+      pub lower-asked : LowerAsked p reciprocal m w l k high low r
+      lower-asked = RowsOf.lower-asked n m w (bounds .columns) r size (inv .found) ready prime
+          (held-coefficients (by-rows n m w) p (inv .at prime positive .held)) reducing
+
+      -- after the step
+      module _ {r′ : List ℕ} {x : Lowered} (lowered : IsLowered p m w l k high low r r′ x) where
+        pub falls : total n (valuesOf m w r′) < total n (valuesOf m w r)
+        falls =
+            let here = inv .at prime positive in
+            step-falls p prime n m w (bounds .columns) (here .held) (inv .found) l k
+            (rows-held prime (bounds .columns) (here .t) (here .held) next) lowered
+
+        pub going-on : {Also′ : Kept p} → ((P : Prime p) (some : 0 < p) → let t = inv .at P some .t in
+            StepRows n m (values (zp-field p P) m w (t .R)) l k → Also′ P some (advance (zp-field p P) m w l k t))
+            → Going p n m w Also′ a r′ (set pivots l (x .pivot)) (count + 1)
+        going-on also = record {
+          r-same = lowered .r-move .size ∙ inv .r-same;
+          room = length-set pivots l (x .pivot) ∙ inv .room;
+          found = RowsOf.pivots-after size (reducing .l-fits) lowered (inv .found) (omega (arith, inv .room, rows-fit));
+          at = λ P some.
+              let here = inv .at P some in
+              let rows = rows-held P (bounds .columns) (here .t) (here .held) next in
+              record {
+                t = advance (zp-field p P) m w l k (here .t);
+                held = step-held p P n m w (bounds .columns) (here .held) (inv .found) l k rows lowered;
+                onward = λ c s x. subst (λ (y : ℕ). Runs (zp-field p P) n m w y (begin (zp-field p P .ring) (A some)) s) (shift c)
+                    (here .onward (suc c) s (more (pair-held P (bounds .columns) (here .t) (here .held) next)
+                    (rw (applied P (bounds .columns) (here .t) (here .held) next) x)));
+                also = also P some rows;
+              };
+          budget = omega (arith, inv .budget, falls);
         }
           where
             shift : (c : ℕ) → count + suc c ≡ count + 1 + c
             shift c = omega arith
-
-        -- the sum of the values falls
-        pub loop-falls : total n (valuesOf m w r′) < total n (valuesOf m w r)
-        loop-falls = step-falls p P n m w columns r indices degrees R (inv .holding .R) pivots l k reducing (holds .R)
-
-      -- `spent` is what all degrees have lost since a
-      module _ (spent : ℕ) (lost : spent + total n (λ i. getD degrees i 0 - 1) ≡ total n (degreesOf m w a)) where
-        height-now : (i : ℕ) → i < n → getD degrees i 0 ≡ height m (value K m w (R i))
-        height-now = height-is p P n m w columns r indices degrees R (inv .holding .R) pivots
-
-        before : (i : ℕ) → i < n → degreesOf m w a i ≡ D K n m w A i
-        before i li = ap (λ (x : ℕ). height m x - 1) (sym (value-held p P n m w first columns i li))
-
-        now : (i : ℕ) → i < n → getD degrees i 0 - 1 ≡ D K n m w R i
-        now i li = ap (λ (x : ℕ). x - 1) (height-now i li)
-
-        spent-is : spent ≡ spent-since K n m w A (inv .t)
-        spent-is = omega (arith, lost, total-same n _ _ before, total-same n _ _ now)
-
-        -- U has room for a row so shifted that it is as high as row l
-        pub row-room : (l : ℕ) → l < n → getD degrees l 0 + spent ≤ n * w
-        row-room l ll = omega (arith, spent-is, height-now l ll, spent-fits p P n m w A (inv .holding) (inv .narrow) places bounded l ll)
-
-        cut : (h s d reach least : ℕ) → 0 < h → least ≤ d → reach + least ≡ h + s → suc (h - 1 + s) - d ≤ reach
-        cut h s d reach least some le is = omega arith
-
-        -- where row k of the result is not zero, row k of U has no term from its height and `spent` on, less what every row of a has
-        pub row-short : (k reach least : ℕ) → k < n → 0 < valuesOf m w r k → ((i : ℕ) → i < n → least ≤ degreesOf m w a i)
-            → reach + least ≡ getD degrees k 0 + spent → Short (n * w) reach n (spot n (n * w) k) u
-        row-short k reach least lk nonzero all reach-is = u-short p P n m w A (inv .holding) (inv .narrow) k reach lk (λ j lj.
-            rw (← spent-is, ← now k lk, ← before j lj) (cut (getD degrees k 0) spent (degreesOf m w a j) reach least
-            (omega (arith, height-now k lk, height-pos m (value K m w (R k)) (omega (arith, agree k lk)))) (all j lj) reach-is))
-
-      pub column-short : (l : ℕ) → l < n → Short w (w + 1 - getD degrees l 0) n (λ i. spot n w i l) v
-      column-short = v-short p P n m w A (inv .holding) (inv .narrow) columns places bounded pivots

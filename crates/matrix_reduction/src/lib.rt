@@ -1,27 +1,27 @@
-// The reduction on buffers, with room of its own: a single step, and "this step repeated until none applies".
-ghost use Rattle.matrix_buffers.specs.Bounds.{Checked};
+// The reduction on buffers, with its transforms and without them, and the single step.
+ghost use Rattle.matrix_promises.specs.Reduced.{IsReduction};
 ghost use Rattle.matrix_reduction.specs.Asked.{StartAsked};
-ghost use Rattle.matrix_reduction.specs.Reduced.{IsReduction};
-ghost use Rattle.matrix_reduction.specs.SteppedOnce.{SteppedOnce};
 use matrix_pivots::Next;
 use matrix_pivots::pivot;
-use matrix_rows::add_row;
 use poly::Modulus;
 
-pub mod first_step;
-pub mod multiple;
-mod nonzero_rows;
-pub mod scratch;
-mod steps;
+mod advance;
+pub mod nonzero_rows;
+mod single;
+mod without_transforms;
 
-// How many rows are not zero and which they are, as in `nonzero_rows`, and how many steps led there.
+pub use single::once;
+pub use without_transforms::run_alone;
+
+// How many rows are not zero, and how many steps led there.
 pub struct Reached {
     pub rank: usize,
     pub count: u64,
-    pub rows: usize,
 }
 
-// The whole reduction of the matrix in r.
+// The whole reduction of the matrix in r: "this step repeated until none applies". The pivots of all rows are kept; a step finds that of
+// its row l anew. `spent` is what the pivot degrees have lost together since the start: no cell of row k of U has a degree above that of
+// row k and `spent`, less the least pivot degree of the input.
 pub fn run(
     r: &mut [u16],
     u: &mut [u16],
@@ -32,45 +32,26 @@ pub fn run(
     md: Modulus,
 ) -> Reached
     requires { ⌜ StartAsked (md .p) (md .reciprocal) n m w (now r) (now u) (now v) ⌝ }
-    ensures { λ x. ⌜ IsReduction (md .p) n m w (now (r .entry)) (now (r .exit)) (now (u .exit)) (now (v .exit)) (x .rank) (x .count) (x .rows) ⌝ }
+    ensures { λ x. ⌜ IsReduction (md .p) n m w (now (r .entry)) (now (r .exit)) (now (u .exit)) (now (v .exit)) (x .rank) (x .count) ⌝ }
 {
-    let mut spare = scratch::room();
-    let mut index = scratch::eight();
-    let mut degree = scratch::eight();
-    pivot::all(r, &mut index, &mut degree, n, m, w);
-    let count = steps::repeat(r, u, v, &mut spare, &mut index, &mut degree, n, m, w, md);
-    let x = nonzero_rows::list(&index, n);
-    Reached {
-        rank: x.rank,
-        count,
-        rows: x.rows,
+    let mut pivots = pivot::all(r, n, m, w);
+    let least = pivot::least(pivots, n, w);
+    let mut count: u64 = 0;
+    let mut spent: usize = 0;
+    loop {
+        let Next::Rows { l, k } = matrix_pivots::next_rows(pivots, n) else {
+            let rank = pivot::rank(pivots, n);
+            return Reached { rank, count };
+        };
+        let high = pivots[l];
+        let low = pivots[k];
+        let from = low.degree;
+        let reach = from.places() + spent - least;
+        let new = advance::advance(r, u, v, l, k, high, low, reach, n, m, w, md);
+        let before = high.degree;
+        let after = new.degree;
+        spent += before.or_zero() - after.or_zero();
+        pivots[l] = new;
+        count += 1;
     }
-}
-
-// One step on the matrix in r, and 1; or 0 where the form is reached.
-pub fn once(r: &mut [u16], n: usize, m: usize, w: usize, md: Modulus) -> u64
-    requires { ⌜ Checked (md .p) (md .reciprocal) n m w (now r) ⌝ }
-    ensures { λ count. ⌜ SteppedOnce (md .p) n m w count (now (r .entry)) (now (r .exit)) ⌝ }
-{
-    let mut spare = scratch::room();
-    let mut index = scratch::eight();
-    let mut degree = scratch::eight();
-    pivot::all(r, &mut index, &mut degree, n, m, w);
-    let Next::Rows { l, k } = matrix_pivots::next_rows(&index, &degree, n) else {
-        return 0;
-    };
-    let x = multiple::plan(r, &index, &degree, l, k, m, w, md);
-    add_row(
-        r,
-        &mut spare,
-        l,
-        k,
-        m,
-        w,
-        degree[k],
-        x.negated,
-        x.exponent,
-        md,
-    );
-    1
 }

@@ -1,38 +1,32 @@
-// The rows that are not zero, by their pivot indices.
+// The rows of a matrix that are not zero.
 ghost use mathlib.Core.Path.{_≡_};
-ghost use lib.ListN.{getD};
-ghost use Rattle.theory_reduction.specs.Rank.{sign};
-ghost use Rattle.matrix_reduction.specs.NonzeroRows.{ListAsked, IsListed};
+ghost use Rattle.matrix_promises.specs.RowList.{maskOf};
+ghost use Rattle.matrix_pivots.specs.Pivot.{valuesOf};
+ghost use Rattle.matrix_reduction.specs.NonzeroRows.{ListAsked, bitWhere};
+use poly::polynomial;
 
-// How many rows are not zero, and which: bit i - 1 stands for row i.
-pub struct Listed {
-    pub rank: usize,
-    pub rows: usize,
+// The bit, where a row has a place in use.
+fn bit_if_used(used: usize, bit: usize) -> usize
+    ensures { λ x. ⌜ x ≡ bitWhere used bit ⌝ }
+{
+    if used == 0 { 0 } else { bit }
 }
 
-fn sign(x: usize) -> usize
-    ensures { λ s. ⌜ s ≡ sign x ⌝ }
+// Which rows of r are not zero: bit i - 1 stands for row i.
+pub fn list(r: &[u16], n: usize, m: usize, w: usize) -> usize
+    requires { ⌜ ListAsked n m w (now r) ⌝ }
+    ensures { λ rows. ⌜ rows ≡ maskOf n (valuesOf m w (now (r .entry))) ⌝ }
 {
-    if x == 0 {
-        return 0;
-    }
-    1
-}
-
-pub fn list(index: &[usize], n: usize) -> Listed
-    requires { ⌜ ListAsked n (now index) ⌝ }
-    ensures { λ x. ⌜ IsListed n (λ i. getD (now (index .entry)) i 0) (x .rank) (x .rows) ⌝ }
-{
-    let mut rank = 0;
+    let s = m * w;
     let mut rows = 0;
     let mut bit = 1;
     let mut i = 0;
     while i < n {
-        let s = sign(index[i]);
-        rank += s;
-        rows += s * bit;
+        let at = i * s;
+        let end = at + s;
+        rows += bit_if_used(polynomial::used(&r[at..end]), bit);
         bit *= 2;
         i += 1;
     }
-    Listed { rank, rows }
+    rows
 }

@@ -1,5 +1,0 @@
-pub mod Value
-pub mod Moving
-pub mod Short
-pub mod LinesAsked
-pub mod RowsOf

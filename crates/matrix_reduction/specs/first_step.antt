@@ -1,3 +1,0 @@
-pub mod Holding
-pub mod Subtraction
-pub mod Asked

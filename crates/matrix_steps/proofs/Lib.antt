@@ -1,0 +1,6 @@
+pub mod Value
+pub mod LinesAsked
+pub mod RowsOf
+pub mod Moving
+pub mod Short
+pub mod Unique

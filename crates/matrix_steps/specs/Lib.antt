@@ -1,0 +1,3 @@
+pub mod multiple
+pub mod Asked
+pub mod Subtraction
