@@ -1,2 +1,2 @@
 pub mod Popov
-pub mod Moves
+pub mod Unique

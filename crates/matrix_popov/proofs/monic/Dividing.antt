@@ -13,28 +13,27 @@ use Rattle.theory_algebra.specs.Residue.{Zp}
 use Rattle.theory_algebra.specs.Series.{const}
 use Rattle.theory_algebra.proofs.Ring as Ring
 use Rattle.theory_algebra.proofs.Matrix.{setrow-same, setrow-other}
-use Rattle.theory_algebra.proofs.PrimeField.{zp-field, field-mul, field-one}
+use Rattle.theory_rings.specs.PrimeField.{zp-field}
+use Rattle.theory_rings.proofs.PrimeField.{field-mul, field-one}
 use Rattle.theory_algebra.proofs.Residue.{zp-path}
-use Rattle.theory_algebra.proofs.Series.{series}
-use Rattle.matrix_buffers.specs.Held.{matrixOf}
+use Rattle.theory_rings.specs.Series.{series}
 use Rattle.matrix_buffers.specs.Scaled.{RowScaled, ColumnScaled}
-use Rattle.matrix_buffers.proofs.Place.{by-rows}
-use Rattle.matrix_buffers.proofs.Held.{held-bounded, held-matrixOf, held-matrix-same}
+use Rattle.matrix_promises.specs.Layout.{by-rows}
+use Rattle.matrix_promises.proofs.Held.{held-bounded, held-matrix-same}
 use Rattle.matrix_buffers.proofs.Scaled.{held-row-scaled, held-column-scaled}
 use Rattle.theory_reduction.specs.Pivot.{index}
 use Rattle.theory_reduction.specs.Step.{Carried, leading}
 use Rattle.theory_reduction.proofs.Index.{value-is}
-use Rattle.theory_popov.specs.Scaled.{where-some, divisor, inverse, scaled}
+use Rattle.theory_popov.specs.Scaled.{where-some, divisor, dividing, scaled}
 use Rattle.theory_popov.proofs.Scaling.{inverse-is}
-use Rattle.matrix_pivots.specs.Pivot.{valuesOf}
-use Rattle.matrix_reduction.specs.multiple.Asked.{PivotAsked}
-use Rattle.matrix_reduction.specs.multiple.Factor.{leadingAt}
-use Rattle.matrix_reduction.specs.first_step.Holding.{Holding}
-use Rattle.matrix_reduction.specs.first_step.Asked.{Matrices}
-use Rattle.matrix_reduction.proofs.first_step.Moving.{leading-is}
-use Rattle.matrix_reduction.proofs.first_step.RowsOf.{pivot-asked}
-use Rattle.matrix_reduction.proofs.first_step.Short.{holding-matrices}
-use Rattle.matrix_reduction.proofs.first_step.Value.{value-held}
+use Rattle.matrix_pivots.specs.Pivot.{valuesOf, zeroRow, indexAt, degreeAt}
+use Rattle.matrix_pivots.specs.declared.pivot.Pivot.{Pivot}
+use Rattle.matrix_steps.specs.multiple.Asked.{PivotAsked}
+use Rattle.matrix_steps.specs.multiple.Factor.{leadingAt}
+use Rattle.matrix_promises.specs.Holding.{Holding}
+use Rattle.matrix_steps.proofs.Moving.{leading-is}
+use Rattle.matrix_steps.proofs.RowsOf.{pivot-asked}
+use Rattle.matrix_steps.proofs.Value.{value-held}
 use Rattle.matrix_popov.specs.monic.Monic.{RowToDivide, whereSome, RowDivided, MonicAsked, MadeMonic}
 
 module _ {F : Type 0} (R : CommRing F) where
@@ -65,7 +64,7 @@ module _ {F : Type 0} (K : Field F) (m w : ℕ) (t : Carried F) where
   S = series (K .ring)
 
   abbrev inverses : ℕ → ℕ → F
-  inverses i = const (K .ring) (inverse K m w (t .R i))
+  inverses i = const (K .ring) (dividing K m w (t .R i))
 
   abbrev divisors : ℕ → ℕ → F
   divisors i = const (K .ring) (divisor K m w (t .R i))
@@ -102,28 +101,8 @@ unfolding index
 number-is p P m w zero a x h = field-one p P
 number-is p P m w (suc v) a x h = h (omega arith)
 
-module _ {p reciprocal n m w : ℕ} {r₀ u₀ v₀ indices degrees : List ℕ} (asked : MonicAsked p reciprocal n m w r₀ u₀ v₀ indices degrees) where
-  open MonicAsked asked using (ready, prime, matrices, columns, lists)
-  open Matrices matrices using (sizes, r-residues, u-residues, v-residues)
-
-  -- there are matrices that the buffers hold at entry
-  some : 0 < p
-  some = omega (arith, prime .two)
-
-  entry : Carried (Zp p)
-  entry = record {
-    R = matrixOf (by-rows n m w) p some r₀;
-    U = matrixOf (by-rows n n (n * w)) p some u₀;
-    V′ = matrixOf (by-rows n n w) p some v₀;
-  }
-
-  entry-held : Holding p n m w r₀ u₀ v₀ entry
-  unfolding entry
-  entry-held = record {
-    R = held-matrixOf (by-rows n m w) p some r₀ (sizes .r-size) r-residues;
-    U = held-matrixOf (by-rows n n (n * w)) p some u₀ (sizes .u-size) u-residues;
-    V′ = held-matrixOf (by-rows n n w) p some v₀ (sizes .v-size) v-residues;
-  }
+module _ {p reciprocal n m w : ℕ} {r₀ u₀ v₀ : List ℕ} {pivots : List Pivot} (asked : MonicAsked p reciprocal n m w r₀ u₀ v₀ pivots) where
+  open MonicAsked asked using (ready, prime, bounds, holding, pivots-are)
 
   pub dividing-start : Dividing p n m w r₀ u₀ v₀ r₀ u₀ v₀ 0
   dividing-start = record { most = omega arith; held = λ P t h. h }
@@ -132,59 +111,64 @@ module _ {p reciprocal n m w : ℕ} {r₀ u₀ v₀ indices degrees : List ℕ} 
   dividing-all inv = record { by = λ P t h. held-all P t (inv .held P t h) }
 
   module _ {r u v : List ℕ} {i : ℕ} (inv : Dividing p n m w r₀ u₀ v₀ r u v i) where
-    here : Holding p n m w r u v (partly (zp-field p prime) m w entry i)
-    here = inv .held prime entry entry-held
+    here : Holding p n m w r u v (partly (zp-field p prime) m w (asked .t) i)
+    here = inv .held prime (asked .t) holding
 
     pub lengths : (length r ≡ length r₀) × (length u ≡ length u₀) × (length v ≡ length v₀)
-    lengths = (here .R .size ∙ sym (sizes .r-size), here .U .size ∙ sym (sizes .u-size), here .V′ .size ∙ sym (sizes .v-size))
+    lengths = (here .R .size ∙ sym (holding .R .size), here .U .size ∙ sym (holding .U .size), here .V′ .size ∙ sym (holding .V′ .size))
 
     module _ (li : i < n) where
+      abbrev pivot : Pivot
+      pivot = getD pivots i zeroRow
+
       -- the leading coefficient of row i is as it was
-      leading-kept : PivotAsked m w i r₀ indices degrees → leadingAt m w r indices degrees i ≡ leadingAt m w r₀ indices degrees i
+      leading-kept : PivotAsked m w i pivot r₀ → leadingAt m w r i pivot ≡ leadingAt m w r₀ i pivot
       leading-kept x =
-          let col : getD indices i 0 - 1 < m = omega (arith, x .leading .column, x .leading .column-most) in
-          let deg : getD degrees i 0 - 1 < w = omega (arith, x .leading .height, x .leading .height-most) in
+          let col : indexAt pivots i - 1 < m = omega (arith, x .leading .column, x .leading .column-most) in
+          let deg : degreeAt pivots i - 1 < w = omega (arith, x .leading .height, x .leading .height-most) in
           here .R .at i _ _ li col deg
-          ∙ ap (λ row. row (getD indices i 0 - 1) (getD degrees i 0 - 1) .val) (row-kept (zp-field p prime) m w entry i)
-          ∙ sym (entry-held .R .at i _ _ li col deg)
+          ∙ ap (λ row. row (indexAt pivots i - 1) (degreeAt pivots i - 1) .val) (row-kept (zp-field p prime) m w (asked .t) i)
+          ∙ sym (holding .R .at i _ _ li col deg)
 
-      pivot-there : 0 < valuesOf m w r₀ i → PivotAsked m w i r₀ indices degrees
-      pivot-there l = pivot-asked n m w columns r₀ (sizes .r-size) lists i li l
+      pivot-there : 0 < valuesOf m w r₀ i → PivotAsked m w i pivot r₀
+      pivot-there l = pivot-asked n m w (bounds .columns) r₀ (holding .R .size) pivots-are i li l
 
-      pub row-asked : RowToDivide p reciprocal n m w i (getD indices i 0) (getD degrees i 0) r u v
+      pub row-asked : RowToDivide p reciprocal n m w i pivot r u v
       row-asked = record {
         ready = ready;
         prime = prime;
-        matrices = holding-matrices here;
+        t = _;
+        holding = here;
         fits = li;
-        leading = λ l. let x = there l .leading in record {
-          row = omega (arith, lengths, x .row);
-          column = x .column;
-          column-most = x .column-most;
-          height = x .height;
-          height-most = x .height-most;
-        };
-        nonzero = λ l. rw (leading-kept (there l)) (there l .nonzero);
+        led = λ l.
+            let x = pivot-there (omega (arith, pivots-are .row i li .index-is, value-is m (valuesOf m w r₀ i))) in
+            record {
+              leading = record {
+                row = omega (arith, lengths, x .leading .row);
+                column = x .leading .column;
+                column-most = x .leading .column-most;
+                height = x .leading .height;
+                height-most = x .leading .height-most;
+              };
+              nonzero = rw (leading-kept x) (x .nonzero);
+            };
       }
-        where
-          there : 0 < getD indices i 0 → PivotAsked m w i r₀ indices degrees
-          there l = pivot-there (omega (arith, lists .pivots .row i li .index-is, value-is m (valuesOf m w r₀ i)))
 
-      module _ {r′ u′ v′ : List ℕ} (d : RowDivided p n m w i (getD indices i 0) (getD degrees i 0) r u v r′ u′ v′) where
+      module _ {r′ u′ v′ : List ℕ} (d : RowDivided p n m w i pivot r u v r′ u′ v′) where
         module _ (P : Prime p) (t : Carried (Zp p)) (h : Holding p n m w r₀ u₀ v₀ t) where
           abbrev K : Field (Zp p)
           K = zp-field p P
 
           divisor-number : divisor K m w (t .R i) .val ≡ d .c
           divisor-number =
-              number-is p P m w _ (leading K m w (t .R i)) (leadingAt m w r indices degrees i) (λ l.
-              leading-is p P n m w columns r₀ indices degrees (t .R) (h .R) (lists .pivots) i li l
-              ∙ sym (leading-kept (pivot-there (omega (arith, value-held p P n m w (h .R) columns i li)))))
-              ∙ ap (λ (x : ℕ). whereSome x (leadingAt m w r indices degrees i))
-              (sym (lists .pivots .row i li .index-is ∙ ap (index m) (sym (value-held p P n m w (h .R) columns i li))))
+              number-is p P m w _ (leading K m w (t .R i)) (leadingAt m w r i pivot) (λ l.
+              leading-is p P n m w (bounds .columns) (h .R) pivots-are i li l
+              ∙ sym (leading-kept (pivot-there (omega (arith, value-held p P n m w (h .R) (bounds .columns) i li)))))
+              ∙ ap (λ (x : ℕ). whereSome x (leadingAt m w r i pivot))
+              (sym (pivots-are .row i li .index-is ∙ ap (index m) (sym (value-held p P n m w (h .R) (bounds .columns) i li))))
               ∙ sym (d .c-is)
 
-          inverse-number : inverse K m w (t .R i) .val ≡ d .f
+          inverse-number : dividing K m w (t .R i) .val ≡ d .f
           inverse-number =
               let f : Zp p = record { val = d .f; lt = d .inverse .below } in
               ap (λ (x : Zp p). x .val) (inverse-unique (K .ring) _ (divisor K m w (t .R i)) f

@@ -1,3 +1,4 @@
+-- Of the rows before i the lowest is known that has the greatest excess. The number of rows that are left falls.
 use borrow.Author.Needs.{needs}
 use native.Mathlib.Omega.{arith}
 use mathlib.Core.Path.{_≡_}
@@ -9,32 +10,22 @@ use Rattle.matrix_popov.proofs.second_step.highest.Statement.{statement
 use Rattle.matrix_popov.proofs.second_step.highest.Tie as tie
 
 abbrev Inv-loop : tie.InvT-loop
-Inv-loop r index degree k m w at₀ most₀ i₀ at most i = (i ≤ k) × IsHighest i (excessAt m w r index degree k) at most
+Inv-loop r k m w pivots at₀ most₀ i₀ at most i = (i ≤ k) × IsHighest i (excessAt m w r pivots k) at most
 
 abbrev μ-loop : tie.MeasureT-loop
-μ-loop r index degree k m w at₀ most₀ i₀ at most i = k - i
-
--- the call
-abbrev start : tie.At-loop Inv-loop μ-loop → tie.Start Inv-loop μ-loop
-start c = c .before .before .before .before
+μ-loop r k m w pivots at₀ most₀ i₀ at most i = k - i
 
 loop-holds : tie.Need-loop-holds Inv-loop μ-loop
 loop-holds c = (omega arith, highest-start _)
 
-mul-t12 : tie.Need-mul-t12 Inv-loop μ-loop
-mul-t12 c = omega (arith, start (c .before) .pre .index-room)
+mul-pivot : tie.Need-mul-pivot Inv-loop μ-loop
+mul-pivot c = let start : tie.Start Inv-loop μ-loop = search needs in omega (arith, start .pre .before)
 
-shared-slice-read-t14 : tie.Need-shared-slice-read-t14 Inv-loop μ-loop
-shared-slice-read-t14 c = omega (arith, start (c .before .before) .pre .index-room)
-
-mul-t16 : tie.Need-mul-t16 Inv-loop μ-loop
-mul-t16 c = omega (arith, start (c .before .before) .pre .degree-room)
-
-shared-slice-read-t18 : tie.Need-shared-slice-read-t18 Inv-loop μ-loop
-shared-slice-read-t18 c = omega (arith, start (c .before .before .before) .pre .degree-room)
+array-copy-out-pivot : tie.Need-array-copy-out-pivot Inv-loop μ-loop
+array-copy-out-pivot c = let start : tie.Start Inv-loop μ-loop = search needs in omega (arith, start .pre .before)
 
 excess-requires : tie.Need-excess-requires Inv-loop μ-loop
-excess-requires c κs = start (c .before .before .before) .pre .rows _ (omega arith)
+excess-requires c κs = let start : tie.Start Inv-loop μ-loop = search needs in start .pre .rows _ (omega arith)
 
 add-i : tie.Need-add-i Inv-loop μ-loop
 add-i c = omega arith
@@ -57,23 +48,13 @@ loop-again c =
 
 returns : tie.Need-returns Inv-loop μ-loop
 returns c =
+    let start : tie.Start Inv-loop μ-loop = search needs in
     let head = c .before .loop in
-    let all : head .i ≡ start (c .before) .args .k = omega arith in
+    let all : head .i ≡ start .args .k = omega arith in
     rw all at (head .inv .1)
 
 pub highest-spec : {M : Type 1} → statement M
 highest-spec =
     tie.close
     (tie.spec
-    Inv-loop
-    μ-loop
-    loop-holds
-    mul-t12
-    shared-slice-read-t14
-    mul-t16
-    shared-slice-read-t18
-    excess-requires
-    add-i
-    loop-less
-    loop-again
-    returns)
+    Inv-loop μ-loop loop-holds mul-pivot array-copy-out-pivot excess-requires add-i loop-less loop-again returns)

@@ -1,114 +1,109 @@
+-- The rows before k are cleared. The number of rows that are left falls.
 use borrow.Author.Needs.{needs}
 use native.Mathlib.Omega.{arith}
-use mathlib.Core.Path.{_≡_, refl, _∙_}
-use Prim.Native.Nat.{_-_}
-use lib.ListN.{length}
+use mathlib.Core.Path.{_≡_}
+use Prim.Native.Nat.{_-_, _≤_}
+use Rattle.theory_algebra.proofs.Flag.{denied}
+use Rattle.matrix_pivots.proofs.Bits.{some-column}
 use Rattle.matrix_popov.specs.second_step.Removing.{Cleared}
-use Rattle.matrix_popov.proofs.second_step.Clearing.{cleared-then, cleared-start, removing-on, r-same, u-same, v-same, count-fits, cleared-rest, removed-all}
+use Rattle.matrix_popov.proofs.second_step.Clearing.{cleared-start, cleared-lengths, cleared-count, cleared-then, clear-asked, cleared-rest}
 use Rattle.matrix_popov.proofs.second_step.remove_all.Statement.{statement}
 use Rattle.matrix_popov.proofs.second_step.remove_all.Tie as tie
 
 abbrev Inv-loop : tie.InvT-loop
-Inv-loop r₀ u₀ v₀ spare₀ index degree n m w md count₀ k₀ r u v spare count k =
-    Cleared (md .p) n m w k count r₀ u₀ v₀ r u v index degree × (length spare ≡ length spare₀)
+Inv-loop r₀ u₀ v₀ n m w md pivots count₀ k₀ r u v count k = (k ≤ n) × Cleared (md .p) n m w k count pivots r₀ u₀ v₀ r u v
 
 abbrev μ-loop : tie.MeasureT-loop
-μ-loop r₀ u₀ v₀ spare₀ index degree n m w md count₀ k₀ r u v spare count k = n - k
+μ-loop r₀ u₀ v₀ n m w md pivots count₀ k₀ r u v count k = n - k
 
--- the call
+-- the call, a turn, and where its row is not zero
 abbrev start : tie.At-loop Inv-loop μ-loop → tie.Start Inv-loop μ-loop
-start head = head .before .before .before .before .before .before .before
+start c = c .before .before .before .before
+
+abbrev turn : tie.After-is-zero-row Inv-loop μ-loop → tie.In-loop Inv-loop μ-loop
+turn c = c .before .before .before
+
+abbrev other : tie.After-clear-row Inv-loop μ-loop → tie.Else1 Inv-loop μ-loop
+other c = c .before .before .before .before
 
 loop-holds : tie.Need-loop-holds Inv-loop μ-loop
-loop-holds c = let call : tie.Start Inv-loop μ-loop = search needs in (cleared-start (call .pre) (record { none = λ a j l la. absurd (omega arith) }), refl)
+loop-holds c = let call : tie.Start Inv-loop μ-loop = search needs in (call .pre .bounds .rows, cleared-start (call .pre))
 
-mul-if1 : tie.Need-mul-if1 Inv-loop μ-loop
-mul-if1 c = omega (arith, start (c .before) .pre .lists .index-room)
+mul-pivot : tie.Need-mul-pivot Inv-loop μ-loop
+mul-pivot c = omega (arith, start (c .before) .pre .bounds .rows-most)
 
-shared-slice-read-if1 : tie.Need-shared-slice-read-if1 Inv-loop μ-loop
-shared-slice-read-if1 c = omega (arith, start (c .before .before) .pre .lists .index-room)
+array-copy-out-pivot : tie.Need-array-copy-out-pivot Inv-loop μ-loop
+array-copy-out-pivot c = omega (arith, start (c .before) .pre .bounds .rows-most)
+
+is-zero-row-requires : tie.Need-is-zero-row-requires Inv-loop μ-loop
+is-zero-row-requires c κs = search needs
 
 same-length : tie.Need-same-length Inv-loop μ-loop
-same-length c = search (needs, r-same)
+same-length c = let head = turn (c .before) .before in cleared-lengths (start head .pre) (head .loop .inv .1) .0
 
 same-length-2 : tie.Need-same-length-2 Inv-loop μ-loop
-same-length-2 c = search (needs, u-same)
+same-length-2 c = let head = turn (c .before) .before in cleared-lengths (start head .pre) (head .loop .inv .1) .1
 
 same-length-3 : tie.Need-same-length-3 Inv-loop μ-loop
-same-length-3 c = search (needs, v-same)
-
-same-length-4 : tie.Need-same-length-4 Inv-loop μ-loop
-same-length-4 c = c .before .before .before .loop .inv .1
+same-length-3 c = let head = turn (c .before) .before in cleared-lengths (start head .pre) (head .loop .inv .1) .2
 
 returns : tie.Need-returns Inv-loop μ-loop
 returns c =
-    let head = c .before .before .before in
-    removed-all (start head .pre) (cleared-rest (start head .pre) (head .loop .inv .0) (omega arith) (c .if1 .taken)) (omega arith)
+    let now = turn (c .before) in
+    let head = now .before in
+    cleared-rest (start head .pre) (head .loop .inv .1) (now .loop-test .taken) (c .before .is-zero-row .ensures .0 (c .if1 .taken))
 
 clear-row-requires : tie.Need-clear-row-requires Inv-loop μ-loop
 clear-row-requires c κs =
-    let head : tie.At-loop Inv-loop μ-loop = search needs in
-    record {
-      removing = removing-on (start head .pre) (head .loop .inv .0) (head .loop .inv .1);
-      before = head .loop .inv .0 .before;
-      k-fits = omega arith;
-      k-some = omega arith;
-    }
+    let other : tie.Else1 Inv-loop μ-loop = search needs in
+    let now = turn (other .before) in
+    let head = now .before in
+    clear-asked (start head .pre) (head .loop .inv .1) (now .loop-test .taken)
+    (some-column (denied (other .before .is-zero-row .ensures) (other .if1 .left)))
 
 add-count : tie.Need-add-count Inv-loop μ-loop
 add-count c =
     let cleared : tie.After-clear-row Inv-loop μ-loop = search needs in
-    let head : tie.At-loop Inv-loop μ-loop = search needs in
-    omega (arith, count-fits (start head .pre) (cleared-then (head .loop .inv .0) (cleared .clear-row .ensures)), start head .good)
+    let now = turn (other cleared .before) in
+    let head = now .before in
+    let all = cleared-then (start head .pre) (head .loop .inv .1) (omega arith) (cleared .clear-row .ensures) in
+    omega (arith, cleared-count (start head .pre) all (omega (arith, now .loop-test .taken)), start head .good)
 
 add-k : tie.Need-add-k Inv-loop μ-loop
-add-k c = omega arith
+add-k c =
+    let cleared : tie.After-clear-row Inv-loop μ-loop = search needs in
+    omega (arith, turn (other cleared .before) .loop-test .taken)
 
 loop-less : tie.Need-loop-less Inv-loop μ-loop
-loop-less c = omega arith
+loop-less c =
+    let cleared : tie.After-clear-row Inv-loop μ-loop = search needs in
+    omega (arith, turn (other cleared .before) .loop-test .taken)
 
 loop-again : tie.Need-loop-again Inv-loop μ-loop
 loop-again c =
     let cleared : tie.After-clear-row Inv-loop μ-loop = search needs in
-    let head : tie.At-loop Inv-loop μ-loop = search needs in
-    (cleared-then (head .loop .inv .0) (cleared .clear-row .ensures), cleared .clear-row .kept .1 .1 .1 .0 ∙ head .loop .inv .1)
+    let now = turn (other cleared .before) in
+    let head = now .before in
+    (omega (arith, now .loop-test .taken), cleared-then (start head .pre) (head .loop .inv .1) (omega arith) (cleared .clear-row .ensures))
+
+same-length-4 : tie.Need-same-length-4 Inv-loop μ-loop
+same-length-4 c = cleared-lengths (start (c .before) .pre) (c .before .loop .inv .1) .0
 
 same-length-5 : tie.Need-same-length-5 Inv-loop μ-loop
-same-length-5 c = search (needs, r-same)
+same-length-5 c = cleared-lengths (start (c .before) .pre) (c .before .loop .inv .1) .1
 
 same-length-6 : tie.Need-same-length-6 Inv-loop μ-loop
-same-length-6 c = search (needs, u-same)
-
-same-length-7 : tie.Need-same-length-7 Inv-loop μ-loop
-same-length-7 c = search (needs, v-same)
-
-same-length-8 : tie.Need-same-length-8 Inv-loop μ-loop
-same-length-8 c = c .before .loop .inv .1
+same-length-6 c = cleared-lengths (start (c .before) .pre) (c .before .loop .inv .1) .2
 
 returns-2 : tie.Need-returns-2 Inv-loop μ-loop
-returns-2 c = removed-all (start (c .before) .pre) (c .before .loop .inv .0) (omega arith)
+returns-2 c =
+    let head = c .before in
+    let all : head .loop .k ≡ start head .args .n = omega (arith, head .loop .inv .0) in
+    rw all at (head .loop .inv .1)
 
 pub remove-all-spec : {M : Type 1} → statement M
 remove-all-spec =
     tie.close
     (tie.spec
-    Inv-loop
-    μ-loop
-    loop-holds
-    mul-if1
-    shared-slice-read-if1
-    same-length
-    same-length-2
-    same-length-3
-    same-length-4
-    returns
-    clear-row-requires
-    add-count
-    add-k
-    loop-less
-    loop-again
-    same-length-5
-    same-length-6
-    same-length-7
-    same-length-8
-    returns-2)
+    Inv-loop μ-loop loop-holds mul-pivot array-copy-out-pivot is-zero-row-requires same-length same-length-2 same-length-3
+    returns clear-row-requires add-count add-k loop-less loop-again same-length-4 same-length-5 same-length-6 returns-2)
