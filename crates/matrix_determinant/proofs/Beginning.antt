@@ -10,8 +10,8 @@ use Rattle.theory_algebra.specs.Matrix.{Same}
 use Rattle.theory_algebra.specs.Prime.{Prime}
 use Rattle.theory_algebra.specs.Residue.{Zp}
 use Rattle.theory_algebra.proofs.Matrix.{identity-same}
-use Rattle.theory_algebra.proofs.PrimeField.{zp-field}
-use Rattle.theory_algebra.proofs.Series.{series}
+use Rattle.theory_rings.specs.PrimeField.{zp-field}
+use Rattle.theory_rings.specs.Series.{series}
 use Rattle.theory_lattice.specs.Row.{Row}
 use Rattle.theory_lattice.proofs.Coefficients.{below-more}
 use Rattle.theory_lists.specs.Skip.{skip}
@@ -19,16 +19,17 @@ use Rattle.theory_lists.proofs.Skip.{skip-low}
 use Rattle.theory_determinant.specs.Determinant.{det}
 use Rattle.theory_determinant.proofs.Stage.{stage-start}
 use Rattle.poly.specs.Holds.{Holds}
-use Rattle.matrix_buffers.specs.Held.{Held}
+use Rattle.matrix_promises.specs.Held.{Held}
 use Rattle.matrix_buffers.proofs.Diagonal.{held-identity}
-use Rattle.matrix_buffers.proofs.Held.{held-bounded, held-matrix-same}
-use Rattle.matrix_buffers.proofs.Place.{by-rows}
+use Rattle.matrix_promises.proofs.Held.{held-bounded, held-matrix-same}
+use Rattle.matrix_promises.specs.Layout.{by-rows}
 use Rattle.matrix_determinant.specs.FirstStage.{Laid}
 use Rattle.matrix_determinant.proofs.LastColumn.{held-next, held-column, column-cell}
 use Rattle.matrix_determinant.specs.AllStages.{FrontHeld}
 
 module _ {p : ℕ} (P : Prime p) {n w wide : ℕ} (rows : 0 < n) (places : 0 < w) (widened : w ≤ wide) (room : n * (w - 1) < wide)
-    {A : ℕ → Row (Zp p)} {a r column product : List ℕ} (input : Held (by-rows n n w) p a A) (laid-out : Laid n w wide a r column product) where
+    {A : ℕ → Row (Zp p)} {a r column product : List ℕ} (input : Held (by-rows n n w) p a A)
+    (laid-out : Laid n w wide a r column product) where
   abbrev K : Field (Zp p)
   K = zp-field p P
 
@@ -45,7 +46,8 @@ module _ {p : ℕ} (P : Prime p) {n w wide : ℕ} (rows : 0 < n) (places : 0 < w
   holds-one : Holds p product (series (K .ring) .𝟙)
   holds-one =
       let held = held-identity p P 1 wide (omega arith) (laid-out .one) in
-      rw (N.zero-mul, take-all wide product (omega (arith, held .size)), identity-same (series (K .ring)) 0) at (column-cell held 0 (omega arith))
+      rw (N.zero-mul, take-all wide product (omega (arith, held .size)), identity-same (series (K .ring)) 0)
+      at (column-cell held 0 (omega arith))
 
   pub first-stage : FrontHeld p P (n - 1) w wide (n * (w - 1)) (det (series (K .ring)) n A) r column product
   first-stage = record {

@@ -15,9 +15,10 @@ use Rattle.theory_lists.proofs.Grid.{line-end, line-less, within}
 use Rattle.theory_lists.proofs.Part.{length-part, getD-part}
 use Rattle.poly.specs.arithmetic.Operations.{zeros}
 use Rattle.poly.specs.Holds.{Holds}
-use Rattle.matrix_buffers.specs.Held.{Held}
+use Rattle.matrix_promises.specs.Held.{Held}
 use Rattle.matrix_buffers.specs.Written.{CellsWritten}
-use Rattle.matrix_buffers.proofs.Place.{block-own, by-rows}
+use Rattle.matrix_promises.specs.Layout.{by-rows}
+use Rattle.theory_lists.proofs.Place.{block-own}
 use Rattle.matrix_buffers.proofs.CellByCell.{none-written, cell-changed, next-written}
 use Rattle.matrix_determinant.specs.LastColumn.{CellAsked, CellFilled, PartAsked, Parted}
 
@@ -77,7 +78,8 @@ module _ (n : ℕ) (source : ℕ → ℕ) (r : List ℕ) {size m s : ℕ} {b₀ 
   pub fill-next : {b′ : List ℕ} → CellFilled (s * size) size (take (source s + n - source s) (drop (source s) r)) b b′
       → Filled size n (s + 1) source r b₀ b′
   fill-next cell =
-      next-written (λ j t u lj lt lu same. omega (arith, block-own size j t s u lt lu same .0)) done (rw (add-sub-cancel-left (source s) n) at cell)
+      next-written (λ j t u lj lt lu same. omega (arith, block-own size j t s u lt lu same .0)) done
+      (rw (add-sub-cancel-left (source s) n) at cell)
 
 -- where a loop stands that parts the rows without row k, and has come to s
 pub record Parting (m w wide k : ℕ) (r next₀ column₀ next column : List ℕ) (s : ℕ) : Type 0 where
@@ -109,8 +111,10 @@ module _ {m w wide k : ℕ} {r next₀ column₀ : List ℕ} (asked : PartAsked 
 
     -- i is the row that is read
     module _ {i : ℕ} (is : i ≡ skip k s) where
-      pub next-asked : CellAsked (s * ((m - 1) * w)) ((m - 1) * w) (take (i * (m * w) + (m - 1) * w - i * (m * w)) (drop (i * (m * w)) r)) next
-      next-asked = rw is (fill-asked kept start r (now .next-filled) more (omega (arith, row-parts s more)) (omega arith) (asked .next-size))
+      pub next-asked : CellAsked (s * ((m - 1) * w)) ((m - 1) * w)
+          (take (i * (m * w) + (m - 1) * w - i * (m * w)) (drop (i * (m * w)) r)) next
+      next-asked = rw is
+          (fill-asked kept start r (now .next-filled) more (omega (arith, row-parts s more)) (omega arith) (asked .next-size))
 
       pub last-asked : CellAsked (s * wide) wide
           (take (i * (m * w) + (m - 1) * w + w - (i * (m * w) + (m - 1) * w)) (drop (i * (m * w) + (m - 1) * w) r)) column
@@ -119,7 +123,8 @@ module _ {m w wide k : ℕ} {r next₀ column₀ : List ℕ} (asked : PartAsked 
 
       pub parting-turn : {next′ column′ : List ℕ}
           → CellFilled (s * ((m - 1) * w)) ((m - 1) * w) (take (i * (m * w) + (m - 1) * w - i * (m * w)) (drop (i * (m * w)) r)) next next′
-          → CellFilled (s * wide) wide (take (i * (m * w) + (m - 1) * w + w - (i * (m * w) + (m - 1) * w)) (drop (i * (m * w) + (m - 1) * w) r)) column column′
+          → CellFilled (s * wide) wide
+          (take (i * (m * w) + (m - 1) * w + w - (i * (m * w) + (m - 1) * w)) (drop (i * (m * w) + (m - 1) * w) r)) column column′
           → Parting m w wide k r next₀ column₀ next′ column′ (s + 1)
       parting-turn next-cell column-cell = record {
         reached = omega arith;
@@ -127,7 +132,8 @@ module _ {m w wide k : ℕ} {r next₀ column₀ : List ℕ} (asked : PartAsked 
         column-filled = fill-next w (λ j. start j + kept) r (now .column-filled) more (rw is at column-cell);
       }
 
-  pub parting-end : {next column : List ℕ} {s : ℕ} → Parting m w wide k r next₀ column₀ next column s → m ≤ s → Parted m w wide k r next column
+  pub parting-end : {next column : List ℕ} {s : ℕ} → Parting m w wide k r next₀ column₀ next column s → m ≤ s
+      → Parted m w wide k r next column
   parting-end {next} {column} {s} now all = record {
     next-size = now .next-filled .size ∙ asked .next-size;
     next-at = λ i j t li lj lt.
@@ -139,7 +145,9 @@ module _ {m w wide k : ℕ} {r next₀ column₀ : List ℕ} (asked : PartAsked 
         cell i t li (omega (arith, asked .widened))
         ∙ getD-part (start i + kept) w r (last i li) t lt
         ∙ ap (λ (x : ℕ). getD r x 0) (omega arith);
-    column-zero = λ i t li from lt. cell i t li lt ∙ getD-past (part (start i + kept) w r) t (omega (arith, length-part (start i + kept) w r (last i li)));
+    column-zero = λ i t li from lt.
+        cell i t li lt
+        ∙ getD-past (part (start i + kept) w r) t (omega (arith, length-part (start i + kept) w r (last i li)));
   }
     where
       last : (i : ℕ) → i < m → start i + kept + w ≤ length r
@@ -177,7 +185,9 @@ column-cell {n = n} {wide = wide} {l = l} h i li =
     let fits : i * wide + wide ≤ length l = omega (arith, h .size, one-column n wide, line-end i n wide li) in
     record {
       at = λ t. case-le wide t
-          (λ past. getD-past (part (i * wide) wide l) t (omega (arith, length-part (i * wide) wide l fits)) ∙ sym (h .beyond i 0 t li (omega arith) past))
+          (λ past.
+          getD-past (part (i * wide) wide l) t (omega (arith, length-part (i * wide) wide l fits))
+          ∙ sym (h .beyond i 0 t li (omega arith) past))
           (λ inside.
           getD-part (i * wide) wide l fits t inside
           ∙ sym (ap (λ (x : ℕ). getD l x 0) (in-column i wide t))

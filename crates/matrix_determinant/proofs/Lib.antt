@@ -1,6 +1,7 @@
 pub mod SignedProduct
 pub mod LastColumn
 mod FirstStage
+mod FirstColumns
 mod ZeroRow
 mod Turning
 mod Fronts

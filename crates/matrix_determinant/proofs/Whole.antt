@@ -1,21 +1,22 @@
 -- The room that the stages of a matrix take, and what they have in the end.
 use mathlib.Core.Path.{_≡_}
 use mathlib.Core.List.{List}
-use Prim.Native.Nat.{ℕ, suc, _+_, _-_, _*_, _≤_, _<_}
+use Prim.Native.Nat.{ℕ, _+_, _-_, _*_, _≤_, _<_}
 use native.Mathlib.Nat as N
 use native.Mathlib.Omega.{arith}
 use lib.ListN.{length}
 use Rattle.theory_algebra.specs.Prime.{Prime}
-use Rattle.theory_algebra.proofs.PrimeField.{zp-field}
-use Rattle.theory_algebra.proofs.Series.{series}
+use Rattle.theory_rings.specs.PrimeField.{zp-field}
+use Rattle.theory_rings.specs.Series.{series}
 use Rattle.theory_determinant.specs.Determinant.{det}
 use Rattle.theory_lists.proofs.Grid.{one-line}
 use Rattle.matrix_buffers.specs.Bounds.{Checked}
-use Rattle.matrix_buffers.specs.Held.{matrixOf}
-use Rattle.matrix_buffers.proofs.Held.{held-matrixOf}
-use Rattle.matrix_buffers.proofs.Place.{by-rows}
+use Rattle.matrix_promises.specs.Held.{matrixOf}
+use Rattle.matrix_promises.proofs.Held.{held-matrixOf}
+use Rattle.matrix_promises.specs.Layout.{by-rows}
 use Rattle.matrix_determinant.specs.FirstStage.{LayAsked, Laid}
-use Rattle.matrix_determinant.specs.Determinant.{DeterminantAsked, IsDeterminant}
+use Rattle.matrix_determinant.specs.Determinant.{DeterminantAsked}
+use Rattle.matrix_promises.specs.Determinant.{IsDeterminant}
 use Rattle.matrix_determinant.specs.AllStages.{FrontHeld, RunAsked, Ran}
 use Rattle.matrix_determinant.proofs.Beginning.{first-stage}
 
@@ -43,7 +44,8 @@ module _ {p reciprocal n d : ℕ} {a r : List ℕ} (asked : DeterminantAsked p r
   widened : d + 1 ≤ n * d + 1
   widened = omega (arith, one-line n d (bounds .rows))
 
-  pub lay-asked : {columns column : List ℕ} → length columns ≡ 3584 → length column ≡ 4040 → LayAsked n (d + 1) (n * d + 1) a columns column r
+  pub lay-asked : {columns column : List ℕ} → length columns ≡ 3584 → length column ≡ 4040
+      → LayAsked n (d + 1) (n * d + 1) a columns column r
   lay-asked x y = record {
     rows = bounds .rows;
     places = omega arith;
@@ -64,34 +66,23 @@ module _ {p reciprocal n d : ℕ} {a r : List ℕ} (asked : DeterminantAsked p r
         first-stage P (bounds .rows) (bounds .places) widened (rw same (omega arith))
         (held-matrixOf (by-rows n n (d + 1)) p some a (checked .size) (checked .residues)) laid
 
-    pub stages-asked : {next spare indices degrees : List ℕ} → length columns ≡ 3584 → length column ≡ 4040 → length next ≡ 3584 → length spare ≡ 512
-        → length indices ≡ 8 → length degrees ≡ 8 → RunAsked p reciprocal n (d + 1) (n * d + 1) columns column next r′ spare indices degrees
-    stages-asked x y z s i j =
-        let one-less : suc (n - 1) ≡ n = omega (arith, bounds .rows) in
-        let few = bounds .rows-most in
-        record {
-          ready = checked .ready;
-          prime = checked .prime;
-          rows = bounds .rows;
-          places = bounds .places;
-          rooms = record {
-            room = record {
-              columns-most = omega arith;
-              places = omega arith;
-              places-most = omega (arith, wide-most);
-              row-room = omega (arith, line-most);
-              cell-room = omega (arith, wide-most);
-              index-room = omega arith;
-              degree-room = omega arith;
-            };
-            widened = widened;
-            r-room = rw one-less (omega (arith, lines-most));
-            column-room = rw one-less (omega (arith, cells-most));
-            next-room = rw one-less (omega (arith, lines-most));
-          };
-          whole = _;
-          held = begins (checked .prime) (omega (arith, checked .prime .two));
-        }
+    pub stages-asked : length columns ≡ 3584 → length column ≡ 4040 → RunAsked p reciprocal n (d + 1) (n * d + 1) columns column r′
+    stages-asked x y = record {
+      ready = checked .ready;
+      prime = checked .prime;
+      rows = bounds .rows;
+      sizes = record {
+        columns-most = omega (arith, bounds .rows-most, bounds .rows);
+        places = bounds .places;
+        places-most = bounds .places-most;
+        widened = widened;
+        wide-most = omega (arith, wide-most);
+      };
+      r-room = omega (arith, lines-most);
+      column-room = omega (arith, cells-most);
+      whole = _;
+      held = begins (checked .prime) (omega (arith, checked .prime .two));
+    }
 
     pub is-determinant : {r″ : List ℕ} → Ran p n (d + 1) (n * d + 1) columns column r′ r″ → IsDeterminant p n d a r″
     is-determinant ran = record { by = λ P some. ran .by P _ (begins P some) }

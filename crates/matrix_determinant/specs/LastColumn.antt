@@ -4,7 +4,7 @@ use mathlib.Core.List.{List}
 use Prim.Native.Nat.{ℕ, _+_, _*_, _-_, _≤_, _<_}
 use lib.ListN.{length, getD}
 use Rattle.theory_lists.specs.Skip.{skip}
-use Rattle.matrix_buffers.specs.Place.{spot}
+use Rattle.theory_lists.specs.Place.{spot}
 use Rattle.matrix_buffers.specs.Written.{CellsWritten}
 
 -- `size` places of a buffer, from `at` on, and no more to be written there

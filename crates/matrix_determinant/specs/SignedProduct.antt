@@ -20,7 +20,7 @@ abbrev pub signed : {F : Type 0} → CommRing F → (negative : Bool) → F → 
 signed R true x = R .neg x
 signed R false x = x
 
--- no term of a times b falls outside the places of a, and there is room for as many
-pub record MultiplyAsked (p reciprocal : ℕ) (a b spare : List ℕ) : Type 0 where
+-- no term of a times b falls outside the places of a, of which there are at most 512
+pub record MultiplyAsked (p reciprocal : ℕ) (a b : List ℕ) : Type 0 where
   pub product : ProductAsked p reciprocal a b a
-  pub spare-room : length a ≤ length spare
+  pub places-most : length a ≤ 512

@@ -1,13 +1,13 @@
 -- What a whole stage asks of its buffers, and what it leaves to the next.
 use mathlib.Core.Path.{_≡_}
 use mathlib.Core.List.{List}
-use Prim.Native.Nat.{ℕ, _*_, _-_, _≤_, _<_}
+use Prim.Native.Nat.{ℕ, _*_, _-_, _<_}
 use lib.ListN.{length, take}
 use Rattle.theory_algebra.specs.Prime.{Prime}
 use Rattle.theory_algebra.specs.Residue.{Zp}
 use Rattle.poly.specs.residues.Modulus.{Ready}
 use Rattle.poly.specs.Holds.{Holds}
-use Rattle.matrix_determinant.specs.first_columns.StageColumns.{RowsHeld, Room}
+use Rattle.matrix_determinant.specs.FirstColumns.{RowsHeld, Sizes}
 
 -- the buffers of the stage of m columns, of which `product` has the product so far, in as many places as a cell of the parted column
 pub record StageHeld (p : ℕ) (P : Prime p) (m w wide budget : ℕ) (whole : ℕ → Zp p) (r column product : List ℕ) : Type 0 where
@@ -16,14 +16,12 @@ pub record StageHeld (p : ℕ) (P : Prime p) (m w wide budget : ℕ) (whole : �
   pub size : length product ≡ wide
   pub so-far : Holds p product f
 
--- such buffers, and room for the columns of the next stage
-pub record StageAsked (p reciprocal m w wide budget : ℕ) (r column next product spare indices degrees : List ℕ) : Type 0 where
+-- such buffers, of at least one column beside the parted one
+pub record StageAsked (p reciprocal m w wide budget : ℕ) (r column product : List ℕ) : Type 0 where
   pub ready : Ready p reciprocal
   pub prime : Prime p
   pub columns : 0 < m
-  pub room : Room m w wide spare indices degrees
-  pub widened : w ≤ wide
-  pub next-size : length next ≡ m * ((m - 1) * w)
+  pub sizes : Sizes m w wide
   pub whole : ℕ → Zp p
   pub held : StageHeld p prime m w wide budget whole r column product
 

@@ -1,66 +1,50 @@
 // A row is taken out.
-ghost use Prim.Native.Nat.{_<_};
-ghost use lib.ListN.{length};
-ghost use Rattle.matrix_determinant.specs.ZeroRow.{IsLower, ZeroFound, TakeAsked, TakenOut};
+ghost use Prim.Native.Nat.{suc, _<_};
+ghost use Rattle.matrix_determinant.specs.ZeroRow.{LowestZero, TakeAsked, TakenOut};
 use crate::last_column;
 use crate::product;
+use matrix_pivots::Pivot;
 use poly::Modulus;
 
-// A zero row, and the sign of its entry.
-struct ZeroRow {
-    k: usize,
-    negative: bool,
-}
-
-// "Of several zero rows the lowest is taken."
-fn lower(a: ZeroRow, b: ZeroRow) -> ZeroRow
-    ensures { λ x. ⌜ IsLower a b x ⌝ }
-{
-    if b.k < a.k { b } else { a }
-}
-
-// The lowest of m + 1 rows that is zero, by its pivot index, or m + 1, with the sign of Figure 4.
-fn lowest_zero(index: &[usize], m: usize) -> ZeroRow
-    requires { ⌜ m < length (now index) ⌝ }
-    ensures { λ x. ⌜ ZeroFound m (now (index .entry)) (x .k) (x .negative) ⌝ }
+// "Of several zero rows the lowest is taken": of m + 1 rows, by their pivots, or m + 1 where none is zero.
+fn lowest_zero(pivots: [Pivot; 8], m: usize) -> usize
+    requires { ⌜ m < 8 ⌝ }
+    ensures { λ k. ⌜ LowestZero (suc m) pivots k ⌝ }
 {
     let rows = m + 1;
-    let mut lowest = ZeroRow {
-        k: rows,
-        negative: true,
-    };
     let mut i = 0;
     while i < rows {
-        if index[i] == 0 {
-            let negative = (i + m) % 2 == 1;
-            lowest = lower(lowest, ZeroRow { k: i, negative });
+        let pivot = pivots[i];
+        let x = pivot.index;
+        if x.is_zero_row() {
+            return i;
         }
         i += 1;
     }
-    lowest
+    i
 }
 
-// The lowest row that the steps have left zero is taken out: its entry in the parted column is a factor, and the last column of
-// the other rows is parted.
+// The lowest row that the steps have left zero is taken out: its entry in the parted column, with the sign of Figure 4, is a factor, and
+// the last column of the other rows is parted.
 pub(crate) fn take_out(
     r: &[u16],
     column: &mut [u16],
     next: &mut [u16],
     product: &mut [u16],
-    spare: &mut [u16],
-    index: &[usize],
+    pivots: [Pivot; 8],
     m: usize,
     w: usize,
     wide: usize,
     md: Modulus,
 )
-    requires { ⌜ TakeAsked (md .p) (md .reciprocal) m w wide (now r) (now column) (now next) (now product) (now spare) (now index) ⌝ }
-    ensures { λ _. ⌜ TakenOut (md .p) m w wide (now (r .entry)) (now (column .entry)) (now (product .entry)) (now (index .entry)) (now (next .exit)) (now (column .exit)) (now (product .exit)) ⌝ }
+    requires { ⌜ TakeAsked (md .p) (md .reciprocal) m w wide pivots (now r) (now column) (now next) (now product) ⌝ }
+    ensures { λ _. ⌜ TakenOut (md .p) m w wide pivots (now (r .entry)) (now (column .entry)) (now (product .entry)) (now (next .exit)) (now (column .exit)) (now (product .exit)) ⌝ }
 {
-    let x = lowest_zero(index, m);
-    let at = x.k * wide;
+    let k = lowest_zero(pivots, m);
+    let negative = (k + m) % 2 == 1;
+    let at = k * wide;
     let end = at + wide;
-    product::multiply(product, spare, &column[at..end], x.negative, md);
+    product::multiply(product, &column[at..end], negative, md);
     let cells = m * wide;
-    last_column::part(r, &mut column[..cells], next, x.k, m, w, wide);
+    last_column::part(r, &mut column[..cells], next, k, m, w, wide);
 }

@@ -1,5 +1,5 @@
-use Rattle.matrix_determinant.proofs.Whole.{lay-asked, stages-asked, is-determinant}
 use borrow.Author.Needs.{needs}
+use Rattle.matrix_determinant.proofs.Whole.{lay-asked, stages-asked, is-determinant}
 use Rattle.matrix_determinant.proofs.determinant.Statement.{statement}
 use Rattle.matrix_determinant.proofs.determinant.Tie as tie
 
@@ -15,20 +15,8 @@ add-wide c = search needs
 columns-requires : tie.Need-columns-requires
 columns-requires c κs = search needs
 
-columns-requires-2 : tie.Need-columns-requires-2
-columns-requires-2 c κs = search needs
-
 cells-requires : tie.Need-cells-requires
 cells-requires c κs = search needs
-
-room-requires : tie.Need-room-requires
-room-requires c κs = search needs
-
-eight-requires : tie.Need-eight-requires
-eight-requires c κs = search needs
-
-eight-requires-2 : tie.Need-eight-requires-2
-eight-requires-2 c κs = search needs
 
 slice-aggregate-lay : tie.Need-slice-aggregate-lay
 slice-aggregate-lay c = search needs
@@ -44,18 +32,6 @@ slice-aggregate-run c = search needs
 
 slice-aggregate-run-2 : tie.Need-slice-aggregate-run-2
 slice-aggregate-run-2 c = search needs
-
-slice-aggregate-run-3 : tie.Need-slice-aggregate-run-3
-slice-aggregate-run-3 c = search needs
-
-slice-aggregate-run-4 : tie.Need-slice-aggregate-run-4
-slice-aggregate-run-4 c = search needs
-
-slice-aggregate-run-5 : tie.Need-slice-aggregate-run-5
-slice-aggregate-run-5 c = search needs
-
-slice-aggregate-run-6 : tie.Need-slice-aggregate-run-6
-slice-aggregate-run-6 c = search needs
 
 run-requires : tie.Need-run-requires
 run-requires c κs = search (needs, stages-asked)
@@ -73,24 +49,5 @@ pub determinant-spec : {M : Type 1} → statement M
 determinant-spec =
     tie.close
     (tie.spec
-    add-w
-    mul-wide
-    add-wide
-    columns-requires
-    columns-requires-2
-    cells-requires
-    room-requires
-    eight-requires
-    eight-requires-2
-    slice-aggregate-lay
-    slice-aggregate-lay-2
-    lay-requires
-    slice-aggregate-run
-    slice-aggregate-run-2
-    slice-aggregate-run-3
-    slice-aggregate-run-4
-    slice-aggregate-run-5
-    slice-aggregate-run-6
-    run-requires
-    same-length
-    returns)
+    add-w mul-wide add-wide columns-requires cells-requires slice-aggregate-lay slice-aggregate-lay-2 lay-requires
+    slice-aggregate-run slice-aggregate-run-2 run-requires same-length returns)

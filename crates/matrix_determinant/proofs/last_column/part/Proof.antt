@@ -1,3 +1,4 @@
+-- The rows before s that are left are parted. The number of rows to come falls.
 use borrow.Author.Needs.{needs}
 use native.Mathlib.Omega.{arith}
 use mathlib.Core.Path.{_≡_}
@@ -19,13 +20,15 @@ abbrev start : tie.In-loop Inv-loop μ-loop → tie.Start Inv-loop μ-loop
 start c = c .before .before .before .before .before
 
 -- the row that is read, and where its last cell ends
-row : (c : tie.After-skip Inv-loop μ-loop) → let args = start (c .before) .args in
-    (c .skip .result * (args .m * args .w) + args .m * args .w ≤ length (now (args .r))) × ((args .m - 1) * args .w + args .w ≡ args .m * args .w)
-row c = rw (c .skip .ensures) (row-parts (start (c .before) .pre) _ (c .before .loop-test .taken))
+row : (c : tie.After-row-left Inv-loop μ-loop) → let args = start (c .before) .args in
+    (c .row-left .result * (args .m * args .w) + args .m * args .w ≤ length (now (args .r)))
+    × ((args .m - 1) * args .w + args .w ≡ args .m * args .w)
+row c = rw (c .row-left .ensures) (row-parts (start (c .before) .pre) _ (c .before .loop-test .taken))
 
 -- and the cells that are written
-written : (c : tie.After-skip Inv-loop μ-loop) → let args = start (c .before) .args in let loop = c .before .before .loop in
-    (loop .s * ((args .m - 1) * args .w) + (args .m - 1) * args .w ≤ length (loop .next)) × (loop .s * args .wide + args .wide ≤ length (loop .column))
+written : (c : tie.After-row-left Inv-loop μ-loop) → let args = start (c .before) .args in let loop = c .before .before .loop in
+    (loop .s * ((args .m - 1) * args .w) + (args .m - 1) * args .w ≤ length (loop .next))
+    × (loop .s * args .wide + args .wide ≤ length (loop .column))
 written c = ends (start (c .before) .pre) (c .before .before .loop .inv) (c .before .loop-test .taken)
 
 sub-kept : tie.Need-sub-kept Inv-loop μ-loop
@@ -37,8 +40,8 @@ mul-kept c = let asked = c .before .before .before .pre in omega (arith, row-par
 loop-holds : tie.Need-loop-holds Inv-loop μ-loop
 loop-holds c = parting-start
 
-skip-requires : tie.Need-skip-requires Inv-loop μ-loop
-skip-requires c κs = omega arith
+row-left-requires : tie.Need-row-left-requires Inv-loop μ-loop
+row-left-requires c κs = omega arith
 
 mul-start : tie.Need-mul-start Inv-loop μ-loop
 mul-start c = omega (arith, row c)
@@ -98,9 +101,9 @@ loop-again : tie.Need-loop-again Inv-loop μ-loop
 loop-again c =
     let second = c .before .before in
     let first : tie.After-fill Inv-loop μ-loop = search needs in
-    let read : tie.After-skip Inv-loop μ-loop = search needs in
+    let read : tie.After-row-left Inv-loop μ-loop = search needs in
     parting-turn (start (read .before) .pre) (read .before .before .loop .inv) (read .before .loop-test .taken)
-    (read .skip .ensures) (first .fill .ensures) (second .fill2 .ensures)
+    (read .row-left .ensures) (first .fill .ensures) (second .fill2 .ensures)
 
 same-length : tie.Need-same-length Inv-loop μ-loop
 same-length c = c .before .loop .inv .column-filled .size
@@ -120,7 +123,7 @@ part-spec =
     sub-kept
     mul-kept
     loop-holds
-    skip-requires
+    row-left-requires
     mul-start
     mul-start-2
     add-last

@@ -1,8 +1,9 @@
+-- The buffers hold the stage of m columns in their front, whatever whole they had at the start. The number of columns falls.
 use borrow.Author.Needs.{needs}
 use native.Mathlib.Numerals.{add-one}
 use native.Mathlib.Omega.{arith}
 use mathlib.Core.Path.{_≡_, sym}
-use Prim.Native.Nat.{_+_, _-_, _*_, _≤_, _<_}
+use Prim.Native.Nat.{_+_, _*_, _≤_, _<_}
 use lib.ListN.{length}
 use lib.Seq.{length-take-le}
 use Rattle.matrix_determinant.proofs.Fronts.{budget-fits, Staging, staging-start, fits, stage-asked, staging-on, cell-fits, end-asked, ran}
@@ -10,21 +11,20 @@ use Rattle.matrix_determinant.proofs.stages.run.Statement.{statement}
 use Rattle.matrix_determinant.proofs.stages.run.Tie as tie
 
 abbrev Inv-loop : tie.InvT-loop
-Inv-loop r₀ column₀ next₀ product₀ spare₀ index₀ degree₀ n w wide md m₀ budget₀ r column next product spare index degree m budget =
-    Staging (md .p) (md .reciprocal) n w wide r₀ column₀ next₀ product₀ spare₀ index₀ degree₀ r column next product spare index degree m budget
+Inv-loop r₀ column₀ product₀ n w wide md m₀ budget₀ r column product m budget =
+    Staging (md .p) (md .reciprocal) n w wide r₀ column₀ product₀ r column product m budget
 
 abbrev μ-loop : tie.MeasureT-loop
-μ-loop r₀ column₀ next₀ product₀ spare₀ index₀ degree₀ n w wide md m₀ budget₀ r column next product spare index degree m budget = m
+μ-loop r₀ column₀ product₀ n w wide md m₀ budget₀ r column product m budget = m
 
 -- the call
-abbrev start : tie.After-slice-known7 Inv-loop μ-loop → tie.Start Inv-loop μ-loop
-start c = c .before .before .before .before .before .before .before
+abbrev start : tie.After-slice-known3 Inv-loop μ-loop → tie.Start Inv-loop μ-loop
+start c = c .before .before .before
 
 -- where a stage lies in the buffers
 lies : (c : tie.In-loop Inv-loop μ-loop) → let args = start (c .before .before) .args in let loop = c .before .loop in
     ((loop .m + 1) * (loop .m * args .w) ≤ length (loop .r)) × ((loop .m + 1) * args .wide ≤ length (loop .column))
-    × (loop .m * ((loop .m - 1) * args .w) ≤ length (loop .next)) × (loop .m * args .w ≤ length (loop .spare))
-    × ((loop .m - 1) * args .w ≤ loop .m * args .w) × (loop .m < 8)
+    × (loop .m * args .w ≤ 512) × (loop .m < 8)
 lies c = rw add-one (fits (c .before .loop .inv))
 
 -- after the loop no column is left beside the parted one
@@ -35,7 +35,7 @@ sub-m : tie.Need-sub-m Inv-loop μ-loop
 sub-m c = omega (arith, start c .pre .rows)
 
 sub-budget : tie.Need-sub-budget Inv-loop μ-loop
-sub-budget c = omega (arith, start c .pre .places)
+sub-budget c = omega (arith, start c .pre .sizes .places)
 
 mul-budget : tie.Need-mul-budget Inv-loop μ-loop
 mul-budget c = omega (arith, budget-fits (start c .pre))
@@ -58,15 +58,6 @@ add-cells c = omega (arith, lies c)
 mul-cells : tie.Need-mul-cells Inv-loop μ-loop
 mul-cells c = omega (arith, lies c)
 
-sub-less : tie.Need-sub-less Inv-loop μ-loop
-sub-less c = omega arith
-
-mul-less : tie.Need-mul-less Inv-loop μ-loop
-mul-less c = omega (arith, lies c)
-
-mul-less-2 : tie.Need-mul-less-2 Inv-loop μ-loop
-mul-less-2 c = omega (arith, lies c)
-
 slice-relend-prefix-stage : tie.Need-slice-relend-prefix-stage Inv-loop μ-loop
 slice-relend-prefix-stage c = lies c .0
 
@@ -78,12 +69,6 @@ slice-relend-prefix-stage-2 c = lies (c .before) .1
 
 slice-aggregate-stage-2 : tie.Need-slice-aggregate-stage-2 Inv-loop μ-loop
 slice-aggregate-stage-2 c = sym (length-take-le _ _ (lies (c .before .before) .1))
-
-slice-relend-prefix-stage-3 : tie.Need-slice-relend-prefix-stage-3 Inv-loop μ-loop
-slice-relend-prefix-stage-3 c = lies (c .before .before) .2
-
-slice-aggregate-stage-3 : tie.Need-slice-aggregate-stage-3 Inv-loop μ-loop
-slice-aggregate-stage-3 c = sym (length-take-le _ _ (lies (c .before .before .before) .2))
 
 stage-requires : tie.Need-stage-requires Inv-loop μ-loop
 stage-requires c κs =
@@ -102,16 +87,20 @@ loop-again c =
     let made : tie.After-stage Inv-loop μ-loop = search needs in
     let kept = made .stage .kept in
     rw add-one (staging-on (turn .before .loop .inv) (turn .loop-test .taken) (rw add-one at (made .stage .ensures)) (rw add-one at (kept .0))
-    (rw add-one at (kept .1 .0)) (made .stage .last .1 .1 .0) (kept .1 .1 .0) (search needs) (search needs) (search needs) (search needs))
+    (rw add-one at (kept .1 .0)) (kept .1 .1 .0))
 
 slice-reshare-prefix-multiply : tie.Need-slice-reshare-prefix-multiply Inv-loop μ-loop
-slice-reshare-prefix-multiply c = let done = c .before .before in cell-fits (done .before .loop .inv) (ended done)
+slice-reshare-prefix-multiply c =
+    let done : tie.After-loop Inv-loop μ-loop = search needs in
+    cell-fits (done .before .loop .inv) (ended done)
 
 slice-aggregate-multiply : tie.Need-slice-aggregate-multiply Inv-loop μ-loop
 slice-aggregate-multiply c = sym (length-take-le _ _ (slice-reshare-prefix-multiply (c .before)))
 
 multiply-requires : tie.Need-multiply-requires Inv-loop μ-loop
-multiply-requires c κs = let done = c .before .before .before in end-asked (done .before .loop .inv) (ended done)
+multiply-requires c κs =
+    let done : tie.After-loop Inv-loop μ-loop = search needs in
+    end-asked (done .before .loop .inv) (ended done)
 
 same-length : tie.Need-same-length Inv-loop μ-loop
 same-length c = search needs
@@ -122,18 +111,6 @@ same-length-2 c = search needs
 same-length-3 : tie.Need-same-length-3 Inv-loop μ-loop
 same-length-3 c = search needs
 
-same-length-4 : tie.Need-same-length-4 Inv-loop μ-loop
-same-length-4 c = search needs
-
-same-length-5 : tie.Need-same-length-5 Inv-loop μ-loop
-same-length-5 c = search needs
-
-same-length-6 : tie.Need-same-length-6 Inv-loop μ-loop
-same-length-6 c = search needs
-
-same-length-7 : tie.Need-same-length-7 Inv-loop μ-loop
-same-length-7 c = search needs
-
 returns : tie.Need-returns Inv-loop μ-loop
 returns c =
     let done : tie.After-loop Inv-loop μ-loop = search needs in
@@ -143,38 +120,7 @@ pub run-spec : {M : Type 1} → statement M
 run-spec =
     tie.close
     (tie.spec
-    Inv-loop
-    μ-loop
-    sub-m
-    sub-budget
-    mul-budget
-    loop-holds
-    add-size
-    mul-size
-    mul-size-2
-    add-cells
-    mul-cells
-    sub-less
-    mul-less
-    mul-less-2
-    slice-relend-prefix-stage
-    slice-aggregate-stage
-    slice-relend-prefix-stage-2
-    slice-aggregate-stage-2
-    slice-relend-prefix-stage-3
-    slice-aggregate-stage-3
-    stage-requires
-    sub-m-2
-    loop-less
-    loop-again
-    slice-reshare-prefix-multiply
-    slice-aggregate-multiply
-    multiply-requires
-    same-length
-    same-length-2
-    same-length-3
-    same-length-4
-    same-length-5
-    same-length-6
-    same-length-7
-    returns)
+    Inv-loop μ-loop sub-m sub-budget mul-budget loop-holds add-size mul-size mul-size-2 add-cells mul-cells
+    slice-relend-prefix-stage slice-aggregate-stage slice-relend-prefix-stage-2 slice-aggregate-stage-2 stage-requires
+    sub-m-2 loop-less loop-again slice-reshare-prefix-multiply slice-aggregate-multiply multiply-requires same-length
+    same-length-2 same-length-3 returns)

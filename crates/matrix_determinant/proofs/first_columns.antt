@@ -1,2 +1,0 @@
-mod StageStep
-pub mod StageColumns

@@ -1,2 +1,0 @@
-pub mod StageStep
-pub mod StageColumns
