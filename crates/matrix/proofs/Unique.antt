@@ -1,101 +1,67 @@
--- The promises of the services leave one answer only.
-use mathlib.Core.Path.{_≡_, refl, sym, ap, subst, _∙_}
-use mathlib.Core.Bool.{false}
-use mathlib.Core.Logic.{_⊎_, inl, inr}
+-- Two answers that the promise of a service allows are equal, and so is every buffer at exit.
+use mathlib.Core.Path.{_≡_, refl}
 use mathlib.Core.List.{List}
-use Prim.Native.Nat.{ℕ, _*_}
-use native.Mathlib.Omega.{arith}
-use Rattle.theory_algebra.specs.Prime.{Prime}
-use Rattle.theory_algebra.specs.Residue.{Zp}
-use Rattle.theory_algebra.proofs.PrimeField.{zp-field}
-use Rattle.matrix_buffers.proofs.Held.{held-unique}
-use Rattle.matrix_buffers.proofs.Place.{by-rows}
-use Rattle.theory_reduction.specs.Pair.{Pair, NoPair}
-use Rattle.theory_reduction.specs.Rank.{chosen}
-use Rattle.theory_reduction.specs.Step.{Carried}
-use Rattle.theory_reduction.proofs.Ending.{runs-unique}
-use Rattle.theory_reduction.proofs.Pair.{pair-exclusive}
-use Rattle.matrix_pivots.specs.Pivot.{valueOf, rowOf}
-use Rattle.matrix_refusals.proofs.Unique.{Said, said-refused, said-unique, answering-unique}
-use Rattle.matrix_reduction.specs.first_step.Holding.{Holding}
-use Rattle.matrix_reduction.specs.NonzeroRows.{maskOf}
-use Rattle.matrix_reduction.specs.Reduced.{Reduced, IsReduction}
-use Rattle.matrix_reduction.specs.SteppedOnce.{SteppedOnce}
-use Rattle.matrix.specs.Reduction.{numbersOf, Outcome, Answered}
-use Rattle.matrix.specs.SingleStep.{StepAnswered}
-use Rattle.matrix.specs.SingleStep as Single
+use Prim.Native.Nat.{ℕ}
+use Rattle.matrix_promises.specs.Service.{Service, Promise}
+use Rattle.matrix_promises.specs.Services.{WholeCall, ShortCall, ReductionOutcome, StepOutcome, PopovOutcome}
+use Rattle.matrix_promises.specs.Demands.{OneAnswer}
+use Rattle.matrix_promises.proofs.Demands.{demand-1}
+use Rattle.matrix_refusals.proofs.Unique.{Said, said-refused, said-unique}
+use Rattle.matrix.specs.Reduction.{numbersOf, outcomeOf, Answered}
+use Rattle.matrix.specs.SingleStep.{stepNumbersOf, stepOutcomeOf, StepAnswered}
+use Rattle.matrix.specs.PopovForm.{popovNumbersOf, popovOutcomeOf, PopovAnswered}
+use Rattle.matrix.specs.Determinant.{determinantNumbersOf, DeterminantAnswered}
+use Rattle.matrix.specs.declared.reduction.Answer.{Answer}
+use Rattle.matrix.specs.declared.reduction.Answer.the-variants as Reduction
 use Rattle.matrix.specs.declared.single_step.StepAnswer.{StepAnswer}
 use Rattle.matrix.specs.declared.single_step.StepAnswer.the-variants as Step
-use Rattle.matrix.specs.declared.reduction.Answer.{Answer}
-use Rattle.matrix.specs.declared.reduction.Answer.the-variants.{NotDone, Done}
+use Rattle.matrix.specs.declared.popov_form.PopovAnswer.{PopovAnswer}
+use Rattle.matrix.specs.declared.popov_form.PopovAnswer.the-variants as Popov
+use Rattle.matrix.specs.declared.determinant.DeterminantAnswer.{DeterminantAnswer}
+use Rattle.matrix.specs.declared.determinant.DeterminantAnswer.the-variants as Determinant
 
--- the state determines the three buffers
-pub holding-unique : {p n m w : ℕ} {r u v r′ u′ v′ : List ℕ} {t : Carried (Zp p)} → Holding p n m w r u v t → Holding p n m w r′ u′ v′ t
-    → (r ≡ r′) × (u ≡ u′) × (v ≡ v′)
-holding-unique {p} {n} {m} {w} h h′ =
-    (held-unique (by-rows n m w) p (h .R) (h′ .R), held-unique (by-rows n n (n * w)) p (h .U) (h′ .U), held-unique (by-rows n n w) p (h .V′) (h′ .V′))
+-- number, place and outcome together
+told-same : {S : Service} (h : OneAnswer S) {call : S .Call} {k i l j : ℕ} {x y : S .Outcome} → Promise S call k i x → Promise S call l j y
+    → _≡_ {A = ℕ × ℕ × S .Outcome} (k, i, x) (l, j, y)
+told-same h f g = let (numbers, places, outcomes) = h .one _ _ _ _ _ _ _ f g in λ s. (numbers s, places s, outcomes s)
 
--- the input determines the count and the three buffers
-pub reduced-unique : (p n m w c c′ : ℕ) (a r u v r′ u′ v′ : List ℕ) → Prime p → Reduced p n m w c a r u v → Reduced p n m w c′ a r′ u′ v′
-    → (c ≡ c′) × (r ≡ r′) × (u ≡ u′) × (v ≡ v′)
-reduced-unique p n m w c c′ a r u v r′ u′ v′ P x y =
-    let f = x .by P (omega (arith, P .two)) in
-    let g = y .by P (omega (arith, P .two)) in
-    let (counts, ends) = runs-unique (zp-field p P) n m w (f .runs) (g .runs) in
-    let (same-r, same-u, same-v) = holding-unique (subst (Holding p n m w r u v) ends (f .holding)) (g .holding) in
-    (counts, same-r, same-u, same-v)
-
--- so it determines all that is returned, for rank and rows are read off the result
-pub done-unique : {p n m w rank count rows rank′ count′ rows′ : ℕ} {a r u v r′ u′ v′ : List ℕ} → Prime p
-    → IsReduction p n m w a r u v rank count rows → IsReduction p n m w a r′ u′ v′ rank′ count′ rows′
-    → _≡_ {A = Outcome} (rank, count, rows, r, u, v) (rank′, count′, rows′, r′, u′, v′)
-done-unique {p} {n} {m} {w} {rank} {count} {rows} {rank′} {count′} {rows′} {a} {r} {u} {v} {r′} {u′} {v′} P x y =
-    let (counts, same-r, same-u, same-v) = reduced-unique p n m w count count′ a r u v r′ u′ v′ P (x .reduced) (y .reduced) in
-    let z : List ℕ → ℕ → ℕ = λ l i. valueOf m w (rowOf m w l i) in
-    let ranks : rank ≡ rank′ = x .listed .rank-is ∙ ap (λ (l : List ℕ). chosen n (z l)) same-r ∙ sym (y .listed .rank-is) in
-    let masks : rows ≡ rows′ = x .listed .rows-are ∙ ap (λ (l : List ℕ). maskOf n (z l)) same-r ∙ sym (y .listed .rows-are) in
-    λ i. (ranks i, counts i, masks i, same-r i, same-u i, same-v i)
-
--- an answer is what its numbers say
+-- an answer is what its number, its place and its outcome say
 answer-said : {r u v : List ℕ} (x : Answer)
-    → let s = numbersOf x in Said {Outcome = Outcome} NotDone (λ o. Done (o .0) (o .1) (o .2)) (s .0, s .1, (s .2, s .3, s .4, r, u, v)) x
-answer-said (NotDone x) = said-refused x
-answer-said (Done rank count rows) = record { is = refl }
+    → Said {Outcome = ReductionOutcome} Reduction.NotDone (λ o. Reduction.Done (o .rank) (o .count) (o .rows)) (numbersOf x .0, numbersOf x .1, outcomeOf r u v x) x
+answer-said (Reduction.NotDone x) = said-refused x
+answer-said (Reduction.Done rank count rows) = record { is = refl }
 
--- two answers that the promise allows are equal, and so is every buffer at exit
-pub answered-unique : {p n m d : ℕ} {a r u v r₁ u₁ v₁ r₂ u₂ v₂ : List ℕ} (x y : Answer)
-    → Answered p n m d a r u v r₁ u₁ v₁ x → Answered p n m d a r u v r₂ u₂ v₂ y
-    → _≡_ {A = Answer × List ℕ × List ℕ × List ℕ} (x, r₁, u₁, v₁) (y, r₂, u₂, v₂)
+pub answered-unique : {call : WholeCall} {r₁ u₁ v₁ r₂ u₂ v₂ : List ℕ} (x y : Answer) → Answered call r₁ u₁ v₁ x → Answered call r₂ u₂ v₂ y
+    → _≡_ {A = Answer × ReductionOutcome} (x, outcomeOf r₁ u₁ v₁ x) (y, outcomeOf r₂ u₂ v₂ y)
 answered-unique x y f g =
-    let same = answering-unique false done-unique f g in
-    λ i. (said-unique (answer-said x) (answer-said y) same i, same i .2 .3, same i .2 .4, same i .2 .5)
+    let same = told-same (demand-1 .0) f g in λ i. (said-unique (answer-said x) (answer-said y) same i, same i .2)
 
--- a step is called for or not
-counted-unique : (n m : ℕ) (z : ℕ → ℕ) (c c′ : ℕ) → ((c ≡ 0) × NoPair n m z) ⊎ ((c ≡ 1) × Pair n m z)
-    → ((c′ ≡ 0) × NoPair n m z) ⊎ ((c′ ≡ 1) × Pair n m z) → c ≡ c′
-counted-unique n m z c c′ (inl (e, _)) (inl (e′, _)) = e ∙ sym e′
-counted-unique n m z c c′ (inl (_, none)) (inr (_, pair)) = absurd (pair-exclusive n m z pair none)
-counted-unique n m z c c′ (inr (_, pair)) (inl (_, none)) = absurd (pair-exclusive n m z pair none)
-counted-unique n m z c c′ (inr (e, _)) (inr (e′, _)) = e ∙ sym e′
-
--- the input determines the count of the single step and its result
-pub stepped-unique : {p n m w c c′ : ℕ} {a r r′ : List ℕ} → Prime p → SteppedOnce p n m w c a r → SteppedOnce p n m w c′ a r′
-    → _≡_ {A = ℕ × List ℕ} (c, r) (c′, r′)
-stepped-unique {p} {n} {m} {w} {c} {c′} P x y =
-    let f = x .by P (omega (arith, P .two)) in
-    let g = y .by P (omega (arith, P .two)) in
-    let counts = counted-unique n m _ c c′ (f .counted) (g .counted) in
-    let results = held-unique (by-rows n m w) p (f .held) (g .held) in
-    λ i. (counts i, results i)
-
--- its answer is what its numbers say
 step-answer-said : {r : List ℕ} (x : StepAnswer)
-    → let s = Single.numbersOf x in Said {Outcome = ℕ × List ℕ} Step.NotDone (λ o. Step.Done (o .0)) (s .0, s .1, (s .2, r)) x
+    → Said {Outcome = StepOutcome} Step.NotDone (λ o. Step.Done (o .count)) (stepNumbersOf x .0, stepNumbersOf x .1, stepOutcomeOf r x) x
 step-answer-said (Step.NotDone x) = said-refused x
 step-answer-said (Step.Done count) = record { is = refl }
 
--- two answers that the promise allows are equal, and so is the result at exit
-pub step-answered-unique : {p n m d : ℕ} {a r r₁ r₂ : List ℕ} (x y : StepAnswer) → StepAnswered p n m d a r r₁ x → StepAnswered p n m d a r r₂ y
-    → _≡_ {A = StepAnswer × List ℕ} (x, r₁) (y, r₂)
+pub step-answered-unique : {call : ShortCall} {r₁ r₂ : List ℕ} (x y : StepAnswer) → StepAnswered call r₁ x → StepAnswered call r₂ y
+    → _≡_ {A = StepAnswer × StepOutcome} (x, stepOutcomeOf r₁ x) (y, stepOutcomeOf r₂ y)
 step-answered-unique x y f g =
-    let same = answering-unique false stepped-unique f g in λ i. (said-unique (step-answer-said x) (step-answer-said y) same i, same i .2 .1)
+    let same = told-same (demand-1 .1) f g in λ i. (said-unique (step-answer-said x) (step-answer-said y) same i, same i .2)
+
+popov-answer-said : {r u v : List ℕ} (x : PopovAnswer)
+    → Said {Outcome = PopovOutcome} Popov.NotDone (λ o. Popov.Done (o .rank) (o .first) (o .second)) (popovNumbersOf x .0, popovNumbersOf x .1, popovOutcomeOf r u v x) x
+popov-answer-said (Popov.NotDone x) = said-refused x
+popov-answer-said (Popov.Done rank first second) = record { is = refl }
+
+pub popov-answered-unique : {call : WholeCall} {r₁ u₁ v₁ r₂ u₂ v₂ : List ℕ} (x y : PopovAnswer) → PopovAnswered call r₁ u₁ v₁ x → PopovAnswered call r₂ u₂ v₂ y
+    → _≡_ {A = PopovAnswer × PopovOutcome} (x, popovOutcomeOf r₁ u₁ v₁ x) (y, popovOutcomeOf r₂ u₂ v₂ y)
+popov-answered-unique x y f g =
+    let same = told-same (demand-1 .2) f g in λ i. (said-unique (popov-answer-said x) (popov-answer-said y) same i, same i .2)
+
+determinant-answer-said : {r : List ℕ} (x : DeterminantAnswer)
+    → Said {Outcome = List ℕ} Determinant.NotDone (λ o. Determinant.Done) (determinantNumbersOf x .0, determinantNumbersOf x .1, r) x
+determinant-answer-said (Determinant.NotDone x) = said-refused x
+determinant-answer-said Determinant.Done = record { is = refl }
+
+pub determinant-answered-unique : {call : ShortCall} {r₁ r₂ : List ℕ} (x y : DeterminantAnswer)
+    → DeterminantAnswered call r₁ x → DeterminantAnswered call r₂ y → _≡_ {A = DeterminantAnswer × List ℕ} (x, r₁) (y, r₂)
+determinant-answered-unique x y f g =
+    let same = told-same (demand-1 .3) f g in λ i. (said-unique (determinant-answer-said x) (determinant-answer-said y) same i, same i .2)

@@ -1,5 +1,5 @@
+pub mod Asked
 pub mod Reduction
-pub mod Facts
 pub mod SingleStep
 pub mod PopovForm
 pub mod Determinant

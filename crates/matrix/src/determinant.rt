@@ -19,7 +19,7 @@ pub fn determinant(
     a: &[u16],
     r: &mut [u16],
 ) -> DeterminantAnswer
-    ensures { λ x. ⌜ DeterminantAnswered p n m d (now (a .entry)) (now (r .entry)) (now (r .exit)) x ⌝ }
+    ensures { λ x. ⌜ DeterminantAnswered (record { p = p; n = n; m = m; d = d; a = now (a .entry); r = now (r .entry) }) (now (r .exit)) x ⌝ }
 {
     if let Check::Refused(x) = checks::check_determinant(p, n, m, d, a, r.len()) {
         return DeterminantAnswer::NotDone(x);

@@ -13,7 +13,7 @@ pub enum StepAnswer {
 
 // "The matrix after one step and the count 1, or an equal copy and the count 0 where the form is reached."
 pub fn step(p: u32, n: usize, m: usize, d: usize, a: &[u16], r: &mut [u16]) -> StepAnswer
-    ensures { λ x. ⌜ StepAnswered p n m d (now (a .entry)) (now (r .entry)) (now (r .exit)) x ⌝ }
+    ensures { λ x. ⌜ StepAnswered (record { p = p; n = n; m = m; d = d; a = now (a .entry); r = now (r .entry) }) (now (r .exit)) x ⌝ }
 {
     if let Check::Refused(x) = checks::check_step(p, n, m, d, a, r.len()) {
         return StepAnswer::NotDone(x);

@@ -20,13 +20,13 @@ pub struct Reply {
     pub rows: usize,
 }
 
-fn reply_of(x: Answer) -> Reply
+fn tell(x: Answer) -> Reply
     ensures { λ y. ⌜ y ≡ replyOf x ⌝ }
 {
     match x {
         Answer::NotDone(x) => Reply {
-            number: matrix_refusals::number_of(x),
-            place: matrix_refusals::place_of(x),
+            number: matrix_refusals::table_number(x),
+            place: matrix_refusals::table_place(x),
             rank: 0,
             count: 0,
             rows: 0,
@@ -52,18 +52,18 @@ pub extern "C" fn moorbesen_reduce(
     u: &mut [u16],
     v: &mut [u16],
 ) -> Reply
-    ensures { λ x. ⌜ Replied p n m d (now (a .entry)) (now (r .entry)) (now (u .entry)) (now (v .entry)) (now (r .exit)) (now (u .exit)) (now (v .exit)) x ⌝ }
+    ensures { λ x. ⌜ Replied (record { p = p; n = n; m = m; d = d; a = now (a .entry); r = now (r .entry); u = now (u .entry); v = now (v .entry) }) (now (r .exit)) (now (u .exit)) (now (v .exit)) x ⌝ }
 {
-    reply_of(reduction::reduce(p, n, m, d, a, r, u, v))
+    tell(reduction::reduce(p, n, m, d, a, r, u, v))
 }
 
 // A single step has no rank and no list of rows: both are 0.
-fn step_reply_of(x: StepAnswer) -> Reply
+fn tell_step(x: StepAnswer) -> Reply
     ensures { λ y. ⌜ y ≡ stepReplyOf x ⌝ }
 {
     match x {
-        StepAnswer::NotDone(x) => reply_of(Answer::NotDone(x)),
-        StepAnswer::Done(count) => reply_of(Answer::Done {
+        StepAnswer::NotDone(x) => tell(Answer::NotDone(x)),
+        StepAnswer::Done(count) => tell(Answer::Done {
             rank: 0,
             count,
             rows: 0,
@@ -80,9 +80,9 @@ pub extern "C" fn moorbesen_step(
     a: &[u16],
     r: &mut [u16],
 ) -> Reply
-    ensures { λ x. ⌜ StepReplied p n m d (now (a .entry)) (now (r .entry)) (now (r .exit)) x ⌝ }
+    ensures { λ x. ⌜ StepReplied (record { p = p; n = n; m = m; d = d; a = now (a .entry); r = now (r .entry) }) (now (r .exit)) x ⌝ }
 {
-    step_reply_of(single_step::step(p, n, m, d, a, r))
+    tell_step(single_step::step(p, n, m, d, a, r))
 }
 
 // The two counts are those of the first and of the second kind.
@@ -95,13 +95,13 @@ pub struct PopovReply {
     pub second: u64,
 }
 
-fn popov_reply_of(x: PopovAnswer) -> PopovReply
+fn tell_popov(x: PopovAnswer) -> PopovReply
     ensures { λ y. ⌜ y ≡ popovReplyOf x ⌝ }
 {
     match x {
         PopovAnswer::NotDone(x) => PopovReply {
-            number: matrix_refusals::number_of(x),
-            place: matrix_refusals::place_of(x),
+            number: matrix_refusals::table_number(x),
+            place: matrix_refusals::table_place(x),
             rank: 0,
             first: 0,
             second: 0,
@@ -131,9 +131,9 @@ pub extern "C" fn moorbesen_popov(
     u: &mut [u16],
     v: &mut [u16],
 ) -> PopovReply
-    ensures { λ x. ⌜ PopovReplied p n m d (now (a .entry)) (now (r .entry)) (now (u .entry)) (now (v .entry)) (now (r .exit)) (now (u .exit)) (now (v .exit)) x ⌝ }
+    ensures { λ x. ⌜ PopovReplied (record { p = p; n = n; m = m; d = d; a = now (a .entry); r = now (r .entry); u = now (u .entry); v = now (v .entry) }) (now (r .exit)) (now (u .exit)) (now (v .exit)) x ⌝ }
 {
-    popov_reply_of(popov_form::form(p, n, m, d, a, r, u, v))
+    tell_popov(popov_form::form(p, n, m, d, a, r, u, v))
 }
 
 #[repr(C)]
@@ -142,13 +142,13 @@ pub struct DeterminantReply {
     pub place: usize,
 }
 
-fn determinant_reply_of(x: DeterminantAnswer) -> DeterminantReply
+fn tell_determinant(x: DeterminantAnswer) -> DeterminantReply
     ensures { λ y. ⌜ y ≡ determinantReplyOf x ⌝ }
 {
     match x {
         DeterminantAnswer::NotDone(x) => DeterminantReply {
-            number: matrix_refusals::number_of(x),
-            place: matrix_refusals::place_of(x),
+            number: matrix_refusals::table_number(x),
+            place: matrix_refusals::table_place(x),
         },
         DeterminantAnswer::Done => DeterminantReply {
             number: 0,
@@ -166,7 +166,7 @@ pub extern "C" fn moorbesen_determinant(
     a: &[u16],
     r: &mut [u16],
 ) -> DeterminantReply
-    ensures { λ x. ⌜ DeterminantReplied p n m d (now (a .entry)) (now (r .entry)) (now (r .exit)) x ⌝ }
+    ensures { λ x. ⌜ DeterminantReplied (record { p = p; n = n; m = m; d = d; a = now (a .entry); r = now (r .entry) }) (now (r .exit)) x ⌝ }
 {
-    determinant_reply_of(determinant::determinant(p, n, m, d, a, r))
+    tell_determinant(determinant::determinant(p, n, m, d, a, r))
 }

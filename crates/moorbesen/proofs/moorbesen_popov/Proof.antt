@@ -5,8 +5,8 @@ use Rattle.moorbesen.proofs.moorbesen_popov.Tie as tie
 form-requires : tie.Need-form-requires
 form-requires c κs = search needs
 
-popov-reply-of-requires : tie.Need-popov-reply-of-requires
-popov-reply-of-requires c κs = search needs
+tell-popov-requires : tie.Need-tell-popov-requires
+tell-popov-requires c κs = search needs
 
 same-length : tie.Need-same-length
 same-length c = search needs
@@ -18,14 +18,14 @@ same-length-3 : tie.Need-same-length-3
 same-length-3 c = search needs
 
 returns : tie.Need-returns
-returns c = let made : tie.After-form = search needs in rw (c .popov-reply-of .ensures) (made .form .ensures)
+returns c = let made : tie.After-form = search needs in rw (c .tell-popov .ensures) (made .form .ensures)
 
 pub moorbesen-popov-spec : {M : Type 1} → statement M
 moorbesen-popov-spec =
     tie.close
     (tie.spec
     form-requires
-    popov-reply-of-requires
+    tell-popov-requires
     same-length
     same-length-2
     same-length-3

@@ -5,8 +5,8 @@ use Rattle.moorbesen.proofs.moorbesen_reduce.Tie as tie
 reduce-requires : tie.Need-reduce-requires
 reduce-requires c κs = search needs
 
-reply-of-requires : tie.Need-reply-of-requires
-reply-of-requires c κs = search needs
+tell-requires : tie.Need-tell-requires
+tell-requires c κs = search needs
 
 same-length : tie.Need-same-length
 same-length c = search needs
@@ -18,9 +18,9 @@ same-length-3 : tie.Need-same-length-3
 same-length-3 c = search needs
 
 returns : tie.Need-returns
-returns c = let made : tie.After-reduce = search needs in rw (c .reply-of .ensures) (made .reduce .ensures)
+returns c = let made : tie.After-reduce = search needs in rw (c .tell .ensures) (made .reduce .ensures)
 
 pub moorbesen-reduce-spec : {M : Type 1} → statement M
 moorbesen-reduce-spec =
     tie.close
-    (tie.spec reduce-requires reply-of-requires same-length same-length-2 same-length-3 returns)
+    (tie.spec reduce-requires tell-requires same-length same-length-2 same-length-3 returns)

@@ -6,14 +6,14 @@ use Rattle.moorbesen.proofs.moorbesen_step.Tie as tie
 step-requires : tie.Need-step-requires
 step-requires c κs = search needs
 
-step-reply-of-requires : tie.Need-step-reply-of-requires
-step-reply-of-requires c κs = search needs
+tell-step-requires : tie.Need-tell-step-requires
+tell-step-requires c κs = search needs
 
 same-length : tie.Need-same-length
 same-length c = search needs
 
 returns : tie.Need-returns
-returns c = rw (c .step-reply-of .ensures) (c .before .before .before .step .ensures, refl, refl)
+returns c = rw (c .tell-step .ensures) (c .before .before .before .step .ensures, refl, refl)
 
 pub moorbesen-step-spec : {M : Type 1} → statement M
-moorbesen-step-spec = tie.close (tie.spec step-requires step-reply-of-requires same-length returns)
+moorbesen-step-spec = tie.close (tie.spec step-requires tell-step-requires same-length returns)

@@ -1,10 +1,11 @@
 use mathlib.Core.Path.{subst}
-use mathlib.Core.Bool.{true}
 use denote.Ref.{now}
 use Rattle.poly.proofs.residues.Range.{in-range}
-use Rattle.matrix_refusals.specs.Refused.{Verdict}
+use Rattle.matrix_refusals.specs.Number.{Verdict}
+use Rattle.matrix_promises.specs.Refused.{determinantTable}
+use Rattle.matrix_promises.specs.Services.{ShortCall}
 use Rattle.matrix_refusals.proofs.Answering.{answer-refused}
-use Rattle.matrix.proofs.DeterminantService.{DeterminantPassed, determinant-order, determinant-asked, determinant-answered}
+use Rattle.matrix.proofs.Service.{DeterminantPassed, determinant-order, determinant-asked, determinant-answered}
 use borrow.Author.Needs.{needs}
 use Rattle.matrix.proofs.determinant.determinant.Statement.{statement}
 use Rattle.matrix.proofs.determinant.determinant.Tie as tie
@@ -13,10 +14,12 @@ use Rattle.matrix.proofs.determinant.determinant.Tie as tie
 abbrev start : tie.After-enum-told → tie.Start
 start c = c .before .before .before .before .before
 
+abbrev call : tie.After-enum-told → ShortCall
+call c = let x = start c .args in record { p = x .p; n = x .n; m = x .m; d = x .d; a = now (x .a); r = now (x .r) }
+
 -- past the checks all is in order
-known : (c : tie.After-enum-told) → let args = start c .args in
-    DeterminantPassed (args .p) (args .n) (args .m) (args .d) (now (args .a)) (now (args .r))
-known c = record { told = subst (Verdict true _ _ _ _ _ _ _) (c .enum-told .given .1) (c .before .before .check-determinant .ensures) }
+known : (c : tie.After-enum-told) → DeterminantPassed (call c)
+known c = record { told = subst (Verdict (determinantTable _ _ _ _ _ _)) (c .enum-told .given .1) (c .before .before .check-determinant .ensures) }
 
 check-determinant-requires : tie.Need-check-determinant-requires
 check-determinant-requires c κs = search needs
@@ -40,17 +43,10 @@ same-length : tie.Need-same-length
 same-length c = search needs
 
 returns-2 : tie.Need-returns-2
-returns-2 c = determinant-answered (known (search needs)) _ _ (c .before .before .before .of .ensures .0) (c .before .before .determinant .ensures)
+returns-2 c = determinant-answered (known (search needs)) (c .before .before .before .of .ensures .0) (c .before .before .determinant .ensures)
 
 pub determinant-spec : {M : Type 1} → statement M
 determinant-spec =
     tie.close
     (tie.spec
-    check-determinant-requires
-    enum-known-x
-    returns
-    enum-told
-    of-requires
-    determinant-requires
-    same-length
-    returns-2)
+    check-determinant-requires enum-known-x returns enum-told of-requires determinant-requires same-length returns-2)

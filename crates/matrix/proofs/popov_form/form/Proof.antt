@@ -1,36 +1,60 @@
 use native.Mathlib.Omega.{arith}
+use mathlib.Core.Path.{subst}
+use denote.Ref.{now}
 use Rattle.poly.proofs.residues.Range.{in-range}
-use Rattle.matrix.proofs.PopovService.{reduction-done, order, finish-asked, popov-refused, popov-answered}
+use Rattle.matrix_promises.specs.Refused.{matrixTable}
+use Rattle.matrix_promises.specs.Services.{WholeCall}
+use Rattle.matrix_refusals.specs.Number.{Verdict}
+use Rattle.matrix_refusals.proofs.Answering.{answer-refused}
+use Rattle.matrix.proofs.Service.{Passed, order, work-asked, finish-asked, popov-answered}
 use borrow.Author.Needs.{needs}
 use Rattle.matrix.proofs.popov_form.form.Statement.{statement}
 use Rattle.matrix.proofs.popov_form.form.Tie as tie
 
--- where the reduction has a rank, and where it was made
-abbrev ranked : tie.After-finish-arg3 → tie.After-rank
-ranked c = c .before .before .before .before
+-- the call
+abbrev start : tie.After-enum-told → tie.Start
+start c = c .before .before .before .before .before .before .before
 
-abbrev reduced : tie.After-rank → tie.After-reduce
-reduced c = c .before .before .before .before .before .before .before .before
+abbrev call : tie.After-enum-told → WholeCall
+call c = let x = start c .args in
+    record { p = x .p; n = x .n; m = x .m; d = x .d; a = now (x .a); r = now (x .r); u = now (x .u); v = now (x .v) }
 
-reduce-requires : tie.Need-reduce-requires
-reduce-requires c κs = search needs
+-- past the checks all is in order
+known : (c : tie.After-enum-told) → Passed (call c)
+known c = record { told = subst (Verdict (matrixTable _ _ _ _ _ _ _)) (c .enum-told .given .1) (c .before .before .check-reduction .ensures) }
+
+-- where the reduction was made
+abbrev worked : tie.After-finish → tie.After-work
+worked c = c .before .before .before .before .before .before .before .before .before .before
+
+check-reduction-requires : tie.Need-check-reduction-requires
+check-reduction-requires c κs = search needs
 
 enum-known-x : tie.Need-enum-known-x
 enum-known-x c = search needs
 
-enum-known-rank : tie.Need-enum-known-rank
-enum-known-rank c = search needs
+returns : tie.Need-returns
+returns c = answer-refused (c .before .x .given .1) (c .before .before .before .check-reduction .ensures)
 
-add-finish : tie.Need-add-finish
-add-finish c = omega (arith, order (reduction-done _ (ranked c .rank .given .1) (reduced (ranked c) .reduce .ensures)) .numbers .degree)
+enum-told : tie.Need-enum-told
+enum-told c = search needs
+
+add-w : tie.Need-add-w
+add-w c = omega (arith, order (known c) .numbers .degree)
 
 of-requires : tie.Need-of-requires
-of-requires c κs = in-range (order (reduction-done _ (ranked c .rank .given .1) (reduced (ranked c) .reduce .ensures)) .numbers .modulus)
+of-requires c κs = in-range (order (known (search needs)) .numbers .modulus)
+
+work-requires : tie.Need-work-requires
+work-requires c κs =
+    let md : tie.After-of = search needs in
+    work-asked (known (search needs)) (md .of .ensures .0) (md .of .ensures .1)
 
 finish-requires : tie.Need-finish-requires
 finish-requires c κs =
-    let rank = ranked (c .before) in
-    finish-asked (reduction-done _ (rank .rank .given .1) (reduced rank .reduce .ensures)) (c .of .ensures .0) (c .of .ensures .1)
+    let md : tie.After-of = search needs in
+    let work : tie.After-work = search needs in
+    finish-asked (known (search needs)) (md .of .ensures .0) (work .work .ensures) (md .of .ensures .1)
 
 same-length : tie.Need-same-length
 same-length c = search needs
@@ -41,41 +65,15 @@ same-length-2 c = search needs
 same-length-3 : tie.Need-same-length-3
 same-length-3 c = search needs
 
-returns : tie.Need-returns
-returns c =
-    let made : tie.After-reduce = search needs in
-    popov-refused (made .reduce .result) (c .before .x .given .1) (made .reduce .ensures)
-
-same-length-4 : tie.Need-same-length-4
-same-length-4 c = search needs
-
-same-length-5 : tie.Need-same-length-5
-same-length-5 c = search needs
-
-same-length-6 : tie.Need-same-length-6
-same-length-6 c = search needs
-
 returns-2 : tie.Need-returns-2
 returns-2 c =
-    let made : tie.After-finish = search needs in
-    let rank = ranked (made .before .before) in
-    popov-answered (reduction-done _ (rank .rank .given .1) (reduced rank .reduce .ensures)) (made .before .of .ensures .0) (made .finish .ensures)
+    let md : tie.After-of = search needs in
+    let end : tie.After-finish = search needs in
+    popov-answered (known (search needs)) (md .of .ensures .0) (worked end .work .ensures) (end .finish .ensures)
 
 pub form-spec : {M : Type 1} → statement M
 form-spec =
     tie.close
     (tie.spec
-    reduce-requires
-    enum-known-x
-    enum-known-rank
-    add-finish
-    of-requires
-    finish-requires
-    same-length
-    same-length-2
-    same-length-3
-    returns
-    same-length-4
-    same-length-5
-    same-length-6
-    returns-2)
+    check-reduction-requires enum-known-x returns enum-told add-w of-requires work-requires finish-requires
+    same-length same-length-2 same-length-3 returns-2)

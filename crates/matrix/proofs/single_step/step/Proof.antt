@@ -1,11 +1,13 @@
 use native.Mathlib.Omega.{arith}
 use mathlib.Core.Path.{subst}
-use mathlib.Core.Bool.{false}
 use denote.Ref.{now}
 use Rattle.poly.proofs.residues.Range.{in-range}
-use Rattle.matrix_refusals.specs.Refused.{Verdict}
+use Rattle.matrix_refusals.specs.Number.{Verdict}
+use Rattle.matrix_promises.specs.Refused.{matrixTable}
+use Rattle.matrix_promises.specs.Services.{ShortCall}
+use Rattle.matrix_refusals.proofs.checks.Verdicts.{checked}
 use Rattle.matrix_refusals.proofs.Answering.{answer-refused}
-use Rattle.matrix.proofs.SingleService.{StepPassed, step-order, step-copy-fits, step-asked, step-answered}
+use Rattle.matrix.proofs.Service.{StepPassed, step-order, step-copy-fits, step-answered}
 use borrow.Author.Needs.{needs}
 use Rattle.matrix.proofs.single_step.step.Statement.{statement}
 use Rattle.matrix.proofs.single_step.step.Tie as tie
@@ -14,10 +16,12 @@ use Rattle.matrix.proofs.single_step.step.Tie as tie
 abbrev start : tie.After-enum-told → tie.Start
 start c = c .before .before .before .before .before
 
+abbrev call : tie.After-enum-told → ShortCall
+call c = let x = start c .args in record { p = x .p; n = x .n; m = x .m; d = x .d; a = now (x .a); r = now (x .r) }
+
 -- past the checks all is in order
-known : (c : tie.After-enum-told) → let args = start c .args in
-    StepPassed (args .p) (args .n) (args .m) (args .d) (now (args .a)) (now (args .r))
-known c = record { told = subst (Verdict false _ _ _ _ _ _ _) (c .enum-told .given .1) (c .before .before .check-step .ensures) }
+known : (c : tie.After-enum-told) → StepPassed (call c)
+known c = record { told = subst (Verdict (matrixTable _ _ _ _ _ _ _)) (c .enum-told .given .1) (c .before .before .check-step .ensures) }
 
 check-step-requires : tie.Need-check-step-requires
 check-step-requires c κs = search needs
@@ -41,7 +45,7 @@ of-requires : tie.Need-of-requires
 of-requires c κs = in-range (step-order (known (search needs)) .numbers .modulus)
 
 once-requires : tie.Need-once-requires
-once-requires c κs = step-asked (known (search needs)) (c .of .ensures .0) (c .of .ensures .1) (search needs)
+once-requires c κs = checked (step-order (known (search needs))) (c .of .ensures .0) (c .of .ensures .1) (search needs)
 
 same-length : tie.Need-same-length
 same-length c = search needs
@@ -53,13 +57,4 @@ pub step-spec : {M : Type 1} → statement M
 step-spec =
     tie.close
     (tie.spec
-    check-step-requires
-    enum-known-x
-    returns
-    enum-told
-    copy-requires
-    add-once
-    of-requires
-    once-requires
-    same-length
-    returns-2)
+    check-step-requires enum-known-x returns enum-told copy-requires add-once of-requires once-requires same-length returns-2)
