@@ -1,8 +1,9 @@
-/* The proved reduction, Popov form and determinant beside plain C of the same method, in one run.
+/* The proved reduction, with U and V and of R alone, Popov form and determinant beside plain C of the same method, in one run.
  *
  * matrix figures  prints a line of figures for each input and service: see HEAD; says on standard error how far it is
  * matrix cells KIND P N D  prints the coefficients of an input, for other programs to time
- * matrix compare  only compares result, U, V and the counts of steps; prints 'N passed, M failed'
+ * matrix compare  only compares result, U, V and the counts of steps, those of R alone with the whole reduction too;
+ *                 prints 'N passed, M failed'
  */
 #include "moorbesen.h"
 #include "plain.h"
@@ -12,6 +13,14 @@
 #include <stdlib.h>
 #include <string.h>
 #include <time.h>
+
+/* crates/matrix_bench: a slice is a pointer and then a length */
+struct alone_reply {
+    size_t number, place, rank;
+    uint64_t count;
+};
+struct alone_reply matrix_bench_alone(uint32_t p, size_t n, size_t m, size_t d, const uint16_t *a, size_t a_len, uint16_t *r,
+                                      size_t r_len);
 
 enum { MOST = 8, WIDTH = 64, PLACES = MOST * MOST * WIDTH };
 enum kind { RANDOM, COLUMN, HALF_RANK, TRIANGULAR, KINDS };
@@ -139,6 +148,20 @@ static void plain_reduction(const struct input *in, struct output *out)
     out->done = true;
 }
 
+static void proved_alone(const struct input *in, struct output *out)
+{
+    const size_t n = in->n, w = places(in);
+    struct alone_reply reply = matrix_bench_alone(in->p, n, n, in->d, in->a, w, out->r, w);
+    out->done = reply.number == 0;
+    out->counts = (struct counts){reply.count, 0};
+}
+
+static void plain_alone(const struct input *in, struct output *out)
+{
+    out->counts = plain_reduce(in->p, in->n, in->n, in->d, in->a, out->r, NULL, NULL);
+    out->done = true;
+}
+
 static void proved_popov_form(const struct input *in, struct output *out)
 {
     const size_t n = in->n, w = places(in);
@@ -181,11 +204,13 @@ struct service {
     size_t (*result)(const struct input *in); /* places of the result */
     bool transforms;                          /* whether U and V are written too */
 };
-enum { SERVICES = 3 };
+enum { TIMED = 4, SERVICES }; /* the last is only compared */
 static const struct service services[SERVICES] = {
     {"reduction", {plain_reduction, proved_reduction}, places, true},
+    {"R alone", {plain_alone, proved_alone}, places, false},
     {"Popov form", {plain_popov_form, proved_popov_form}, places, true},
     {"determinant", {plain_determinant_of, proved_determinant}, determinant_places, false},
+    {"R alone in the reduction", {proved_reduction, proved_alone}, places, false},
 };
 static struct output outputs[PROGRAMS];
 
@@ -265,7 +290,7 @@ static void input(struct results *results, const char *series, enum kind kind, u
         agrees ? results->passed++ : results->failed++;
         if (!agrees)
             fprintf(stderr, "%s of %s p=%u n=%u d=%u: results differ\n", services[i].name, names[kind], p, n, d);
-        if (results->figures) {
+        if (results->figures && i < TIMED) {
             const struct counts counts = outputs[PLAIN].counts;
             printf("%s,%s,%s,%u,%u,%u,%llu,%llu,", series, services[i].name, names[kind], p, n, d,
                    (unsigned long long)counts.first, (unsigned long long)counts.second);

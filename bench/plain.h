@@ -21,7 +21,7 @@ struct counts {
     uint64_t first, second;
 };
 
-/* R in weak Popov form, with U*A = R and V*R = A. */
+/* R in weak Popov form, with U*A = R and V*R = A; or R alone, if u and v are NULL. */
 struct counts plain_reduce(uint32_t p, unsigned n, unsigned m, unsigned d,
                            const uint16_t *a, uint16_t *r, uint16_t *u, uint16_t *v);
 

@@ -2,7 +2,7 @@
 from math import floor, log10
 
 PANEL, GAP, TOP, HEIGHT = 260, 70, 60, 260
-COLOURS = {"reduction": "#1f6fb4", "Popov form": "#c8501e", "determinant": "#2f8f4e"}
+COLOURS = {"reduction": "#1f6fb4", "R alone": "#7d4fa8", "Popov form": "#c8501e", "determinant": "#2f8f4e"}
 PROGRAMS = {"proved": "", "C": ' stroke-dasharray="5 4"'}  # plain C is drawn in dashes
 
 

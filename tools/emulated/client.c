@@ -85,7 +85,7 @@ static struct reply ask(struct call call, const struct buffer *b)
     return reply;
 }
 
-#ifdef POLY_BENCH
+#if defined POLY_BENCH
 _Bool poly_bench_add(uint16_t *a, size_t a_len, uint16_t *b, size_t b_len, uint32_t c, size_t e, uint32_t p, uint32_t rounds)
 {
     struct buffer lent[BUFFERS] = {{a, a_len, 1}, {b, b_len, 1}};
@@ -97,6 +97,14 @@ _Bool poly_bench_product(const uint16_t *a, size_t a_len, const uint16_t *b, siz
 {
     struct buffer lent[BUFFERS] = {{(uint16_t *)a, a_len, 0}, {(uint16_t *)b, b_len, 0}, {out, out_len, 1}};
     return ask((struct call){PRODUCT, {p, 0, 0, rounds}, {0}}, lent).number[0] & 1;
+}
+#elif defined MATRIX_BENCH
+struct alone_reply matrix_bench_alone(uint32_t p, size_t n, size_t m, size_t d, const uint16_t *a, size_t a_len, uint16_t *r,
+                                      size_t r_len)
+{
+    struct buffer lent[BUFFERS] = {{(uint16_t *)a, a_len, 0}, {r, r_len, 1}};
+    struct reply x = ask((struct call){ALONE, {p, n, m, d}, {0}}, lent);
+    return (struct alone_reply){x.number[0], x.number[1], x.number[2], x.number[3]};
 }
 #else
 struct moorbesen_reply moorbesen_reduce(uint32_t p, size_t n, size_t m, size_t d, const uint16_t *a, size_t a_len, uint16_t *r,

@@ -45,11 +45,14 @@ static void answer(void)
     uint64_t *x = call.number;
     size_t *l = (size_t *)call.length;
     uint16_t(*b)[ROOM] = buffer;
-#ifdef POLY_BENCH
+#if defined POLY_BENCH
     if (call.service == ADD)
         reply.number[0] = poly_bench_add(b[0], l[0], b[1], l[1], (uint32_t)x[1], x[2], (uint32_t)x[0], (uint32_t)x[3]);
     else
         reply.number[0] = poly_bench_product(b[0], l[0], b[1], l[1], b[2], l[2], (uint32_t)x[0], (uint32_t)x[3]);
+#elif defined MATRIX_BENCH
+    struct alone_reply r = matrix_bench_alone((uint32_t)x[0], x[1], x[2], x[3], b[0], l[0], b[1], l[1]);
+    reply = (struct reply){{r.number, r.place, r.rank, r.count}};
 #else
     uint32_t p = (uint32_t)x[0];
     if (call.service == POPOV) {
