@@ -4,13 +4,13 @@ use mathlib.Core.List.{List}
 use Prim.Native.Nat.{ℕ}
 use native.Mathlib.Omega.{arith}
 use lib.ListN.{length}
-use Rattle.poly.specs.Polynomial.{Coefficients}
-use Rattle.matrix_refusals.specs.Answering.{Told}
-use Rattle.matrix_refusals.specs.Refused.{Numbers}
-use Rattle.matrix_refusals.proofs.Answering.{past}
+use Rattle.theory_lists.specs.Coefficients.{Coefficients}
+use Rattle.matrix_promises.specs.Answering.{Told}
+use Rattle.matrix_promises.specs.Refused.{Numbers}
+use Rattle.matrix_promises.proofs.Tables.{past, in-range}
 use Rattle.printer_format.specs.Line.{Lines}
 use Rattle.printer_format.specs.File.{headLines, numbersOf, headModulus, headRows, headColumns, headDegree, bodyLines, AsSaid}
-use Rattle.printer_files.specs.Table.{tableBy, printerTable}
+use Rattle.printer_files.specs.Table.{cellsTable, tableBy, printerTable}
 
 -- its lines are as said, and p, n, m, d and the coefficients are in range
 pub record InFormat (head : Lines) : Type 0 where
@@ -23,12 +23,10 @@ told-nothing : (size : ℕ) (head : Lines) {place : ℕ} → Told (tableBy size 
 told-nothing size head told =
     let (_, after-size) = past refl (omega arith) told in
     let (said, after-head) = past refl (omega arith) after-size in
-    let (modulus, after-modulus) = past refl (omega arith) after-head in
-    let (shape, after-shape) = past refl (omega arith) after-modulus in
-    let (degree, after-degree) = past refl (omega arith) after-shape in
-    let (cells, after-cells) = past refl (omega arith) after-degree in
+    let (numbers, after-numbers) = in-range (cellsTable (headModulus head) (bodyLines head)) refl after-head in
+    let (cells, after-cells) = past refl (omega arith) after-numbers in
     let (residues, _) = past refl (omega arith) after-cells in
-    record { head-said = said; numbers = record { modulus = modulus; shape = shape; degree = degree }; cells-said = cells; residues = residues }
+    record { head-said = said; numbers = numbers; cells-said = cells; residues = residues }
 
 pub accepted : (s : List ℕ) {place : ℕ} → Told (printerTable s) 0 place → InFormat (headLines s)
 accepted s told = told-nothing (length s) (headLines s) told

@@ -4,7 +4,7 @@ use mathlib.Core.List.{List, [], _∷_}
 use Prim.Native.Nat.{ℕ, _+_, _*_, _≤_}
 use lib.ListN.{length, take, drop}
 use Rattle.matrix_refusals.specs.Number.{numberOf, placeOf}
-use Rattle.matrix_refusals.specs.Answering.{Rule, Told}
+use Rattle.matrix_promises.specs.Answering.{Rule, Told}
 use Rattle.printer_format.specs.Line.{Lines, read}
 use Rattle.printer_format.specs.File.{headLines, numbersOf, restOf, headModulus, headRows, headColumns, headDegree, cellLines, WrongLine}
 use Rattle.printer_files.specs.Table.{bodyTable, tableBy}

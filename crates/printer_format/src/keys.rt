@@ -28,7 +28,7 @@ pub const INPUT: [u8; 4] = *b"a11=";
 pub const RESULT: [u8; 4] = *b"r11=";
 
 // The key of cell c of a matrix of m columns, from that of the first cell.
-pub fn cell_key(first: [u8; 4], m: usize, c: usize) -> [u8; 4]
+pub fn key_of_cell(first: [u8; 4], m: usize, c: usize) -> [u8; 4]
     requires { ⌜ CellAsked m c ⌝ }
     ensures { λ r. ⌜ r ≡ cellKey first m c ⌝ }
 {

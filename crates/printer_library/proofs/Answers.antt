@@ -1,26 +1,28 @@
 -- From what the parts promise to the answer that is written.
 use mathlib.Core.Path.{_≡_, refl, sym, ap, subst, subst⁻¹, _∙_}
-use mathlib.Core.Bool.{Bool, true, false}
+use mathlib.Core.Logic.{inr}
 use mathlib.Core.List.{List, [], _∷_}
 use Prim.Native.Nat.{ℕ, _+_, _*_, _≤_, _<_}
 use native.Mathlib.Nat.{mul-assoc, mul-le-mul}
 use native.Mathlib.Omega.{arith}
 use lib.ListN.{length, take}
 use lib.Seq.{length-take-le}
-use Rattle.poly.specs.Polynomial.{Coefficients}
-use Rattle.matrix_buffers.proofs.Held.{held-coefficients}
-use Rattle.matrix_buffers.proofs.Place.{by-rows}
+use Rattle.theory_lists.specs.Coefficients.{Coefficients}
+use Rattle.matrix_promises.proofs.Held.{held-coefficients}
+use Rattle.matrix_promises.specs.Layout.{by-rows}
 use Rattle.matrix_buffers.proofs.Bounds.{matrix-few}
-use Rattle.matrix_refusals.specs.Answering.{Told}
-use Rattle.matrix_refusals.specs.Refused.{Numbers, InSquare, refusalTable}
+use Rattle.matrix_promises.specs.Refused.{Numbers, reductionSizes, determinantSizes, squareRule, lengthRule, coefficientRule}
 use Rattle.matrix_refusals.proofs.Answering.{refusal-number}
-use Rattle.matrix_refusals.proofs.checks.Verdicts.{all-right, in-bounds}
-use Rattle.matrix_refusals.proofs.Unique.{told-unique}
-use Rattle.matrix_reduction.specs.Reduced.{ReducedBy}
+use Rattle.matrix_promises.proofs.Tables.{past-numbers}
+use Rattle.matrix_refusals.proofs.checks.Verdicts.{in-bounds}
+use Rattle.matrix_promises.proofs.Tables.{matrix-decided, determinant-decided}
+use Rattle.matrix_promises.specs.Reduced.{AloneBy}
+use Rattle.matrix_promises.specs.Service.{Promise}
+use Rattle.matrix_promises.specs.Services.{determinant}
+use Rattle.matrix_promises.proofs.Alone.{alone}
 use Rattle.matrix.specs.Reduction.{Answered}
 use Rattle.matrix.specs.declared.reduction.Answer.{Answer}
 use Rattle.matrix.specs.declared.reduction.Answer.the-variants.{NotDone, Done}
-use Rattle.matrix.specs.Determinant.{DeterminantPromised}
 use Rattle.printer_format.specs.Answer.{refusalText, outputRoom}
 use Rattle.printer_format.specs.File.{headLines, numbersOf, headModulus, headRows, headColumns, headDegree, bodyLines}
 use Rattle.printer_format.proofs.Room.{Writable, Answerable}
@@ -30,7 +32,7 @@ use Rattle.printer_files.specs.declared.Input.the-variants.{Matrix}
 use Rattle.printer_files.proofs.Accepted.{accepted}
 use Rattle.printer_writing.specs.Wrote.{Wrote}
 use Rattle.printer_library.specs.Printed.{MatrixAnswer, Printed, Output}
-use Rattle.printer_library.specs.Asked.{MatrixAsked, Determined, ResultAsked}
+use Rattle.printer_library.specs.Asked.{MatrixTaken, Determined, ResultAsked}
 
 -- a text that is written and fits
 pub output : {Is : List ℕ → Type 0} {out : List ℕ} {text : List ℕ} {size : ℕ} {out′ : List ℕ} → Is text → length text ≤ outputRoom
@@ -42,18 +44,13 @@ pub output-as : {Is Is′ : List ℕ → Type 0} {out : List ℕ} {size : ℕ} {
     → Output Is out size out′ → Output Is′ out size out′
 output-as too x = record { text = x .text; is = too (x .text) (x .is); wrote = x .wrote; fits = x .fits }
 
-module _ {p n m d : ℕ} {a : List ℕ} (asked : MatrixAsked p n m d a) where
-  -- a service whose buffers have their lengths does not refuse it
-  not-refused : (determinant : Bool) {given wanted : List ℕ} {number place : ℕ} → InSquare determinant n m → given ≡ wanted
-      → Told (refusalTable determinant p n m d given wanted a) number place → number ≡ 0
-  not-refused determinant {given} {wanted} square same told =
-      told-unique determinant p n m d given wanted a _ _ _ _ told
-      (all-right determinant p n m d given wanted a (asked .numbers) square same (asked .residues)) .0
-
-  pub determined : {det det′ : List ℕ} {number place : ℕ} → length det ≡ n * d + 1 → DeterminantPromised p n m d a det det′ number place
-      → Determined p n m d a det′
-  determined size promised = record {
-    determinant = λ square. promised .done (not-refused true square (λ i. asked .size i ∷ size i ∷ []) (promised .told));
+module _ {p n m d : ℕ} {a : List ℕ} (asked : MatrixTaken p n m d a) where
+  pub determined : {det det′ : List ℕ} {number place : ℕ} → length det ≡ n * d + 1
+      → Promise determinant (record { p = p; n = n; m = m; d = d; a = a; r = det }) number place det′ → Determined p n m d a det′
+  determined {det} size promised = record {
+    determinant = λ square. promised .done (determinant-decided _ _ _ _ (promised .told) (past-numbers
+        (squareRule n m ∷ lengthRule (length a ∷ length det ∷ []) (determinantSizes n m d) ∷ coefficientRule p a ∷ []) (asked .numbers)
+        (inr (square, inr ((λ i. asked .size i ∷ size i ∷ []), inr (asked .residues, (refl, refl)))))) .0);
   }
 
 -- the answer of the reduction is no refusal, and r is the result
@@ -61,13 +58,16 @@ abbrev pub ReducedTo : (p n m d : ℕ) (a r : List ℕ) → Answer → Type 0
 ReducedTo p n m d a r (NotDone y) = ⊥
 ReducedTo p n m d a r (Done rank count rows) = ResultAsked p n m d a r rank count
 
-pub reduced-to : {p n m d : ℕ} {a r u v r′ u′ v′ : List ℕ} → MatrixAsked p n m d a → length r ≡ n * (m * (d + 1))
-    → length u ≡ n * (n * (n * (d + 1))) → length v ≡ n * (n * (d + 1)) → (x : Answer) → Answered p n m d a r u v r′ u′ v′ x
-    → ReducedTo p n m d a r′ x
-reduced-to asked r-size u-size v-size (NotDone y) answered =
-    omega (arith, refusal-number y, not-refused asked false tt (λ i. asked .size i ∷ r-size i ∷ u-size i ∷ v-size i ∷ []) (answered .told))
-reduced-to {u′ = u′} {v′} asked r-size u-size v-size (Done rank count rows) answered =
-    record { matrix = asked; u = u′; v = v′; rows = rows; reduced = answered .done refl }
+pub reduced-to : {p n m d : ℕ} {a r u v r′ u′ v′ : List ℕ} → MatrixTaken p n m d a → length r ≡ n * (m * (d + 1))
+    → length u ≡ n * (n * (n * (d + 1))) → length v ≡ n * (n * (d + 1)) → (x : Answer)
+    → Answered (record { p = p; n = n; m = m; d = d; a = a; r = r; u = u; v = v }) r′ u′ v′ x → ReducedTo p n m d a r′ x
+reduced-to {p} {n} {m} {d} {a} {r} {u} {v} asked r-size u-size v-size (NotDone y) answered =
+    let given = length a ∷ length r ∷ length u ∷ length v ∷ [] in
+    let fine = past-numbers (lengthRule given (reductionSizes n m d) ∷ coefficientRule p a ∷ []) (asked .numbers)
+    (inr ((λ i. asked .size i ∷ r-size i ∷ u-size i ∷ v-size i ∷ []), inr (asked .residues, (refl, refl)))) in
+    omega (arith, refusal-number y, matrix-decided _ _ _ _ (answered .told) fine .0)
+reduced-to asked r-size u-size v-size (Done rank count rows) answered =
+    record { matrix = asked; reduced = alone (answered .done refl .0) }
 
 -- a determinant has at most 505 places
 pub determinant-few : {p n m d : ℕ} → Numbers p n m d → n * d + 1 ≤ 505
@@ -84,11 +84,11 @@ module _ {p n m d : ℕ} {a r det : List ℕ} {rank count : ℕ} (asked : Result
   some = omega (arith, asked .matrix .numbers .modulus .prime .two)
 
   -- what was promised of the result
-  ended : ReducedBy p (asked .matrix .numbers .modulus .prime) some n m (d + 1) count a r (asked .u) (asked .v)
-  ended = asked .reduced .reduced .by (asked .matrix .numbers .modulus .prime) some
+  ended : AloneBy p (asked .matrix .numbers .modulus .prime) some n m (d + 1) a r rank count
+  ended = asked .reduced .by (asked .matrix .numbers .modulus .prime) some
 
   result-size : length r ≡ n * (m * (d + 1))
-  result-size = ended .holding .R .size
+  result-size = ended .held .size
 
   pub result-answerable : rank < 18446744073709551616 → count < 18446744073709551616 → Answerable rank count n m d r det
   result-answerable rank-fits count-fits =
@@ -100,7 +100,7 @@ module _ {p n m d : ℕ} {a r det : List ℕ} {rank count : ℕ} (asked : Result
         columns = numbers .shape .columns-most;
         degree = numbers .degree;
         result-size = omega (arith, result-size, mul-assoc n m (d + 1));
-        result-small = writable (numbers .modulus .most) (held-coefficients (by-rows n m (d + 1)) p (ended .holding .R));
+        result-small = writable (numbers .modulus .most) (held-coefficients (by-rows n m (d + 1)) p (ended .held));
         determinant-size = omega (arith, places, determinant-few numbers);
         determinant-small = λ square. writable (numbers .modulus .most)
             (held-coefficients (by-rows 1 1 (n * d + 1)) p (determined .determinant square .by (numbers .modulus .prime) some));
@@ -139,7 +139,7 @@ module _ (s : List ℕ) {room : List ℕ} where
       done = λ none. subst (λ (t : ℕ × ℕ × ℕ × ℕ × List ℕ). MatrixAnswer (t .0) (t .1) (t .2) (t .3) (t .4) w) same answer;
     }
 
-    pub matrix-asked : length room ≡ 4096 → MatrixAsked p n m d (take (n * (m * (d + 1))) room)
+    pub matrix-asked : length room ≡ 4096 → MatrixTaken p n m d (take (n * (m * (d + 1))) room)
     matrix-asked size =
         let fine = accepted s (found .told) in
         let numbers = subst⁻¹ (λ (t : ℕ × ℕ × ℕ × ℕ × List ℕ). Numbers (t .0) (t .1) (t .2) (t .3)) same (fine .numbers) in

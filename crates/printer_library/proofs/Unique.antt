@@ -2,22 +2,20 @@
 use mathlib.Core.Path.{_≡_, refl, sym, ap, subst, _∙_}
 use mathlib.Core.Bool.{Bool, true, false, cond}
 use mathlib.Core.List.{List, [], _++_}
-use Prim.Native.Nat.{ℕ, _+_}
+use Prim.Native.Nat.{ℕ}
 use native.Mathlib.Omega.{arith}
-use lib.ListN.{length}
 use lib.Dec.{eqb}
 use borrow.Author.Tests.{eqb-true}
 use Rattle.theory_algebra.specs.Prime.{Prime}
 use Rattle.theory_algebra.proofs.Cases.{case-le}
-use Rattle.matrix_refusals.specs.Answering.{Told}
-use Rattle.matrix.proofs.Unique.{done-unique}
-use Rattle.matrix.proofs.DeterminantFacts.{determinant-unique}
+use Rattle.matrix_promises.specs.Answering.{Told}
+use Rattle.matrix_promises.proofs.Unique.{alone-unique, determinant-unique}
 use Rattle.printer_format.specs.Line.{bytes, line}
 use Rattle.printer_format.specs.Answer.{refusalText, countsText, resultText, determinantText}
 use Rattle.printer_files.specs.Table.{printerTable}
 use Rattle.printer_files.proofs.Unique.{printer-unique}
 use Rattle.printer_files.proofs.Accepted.{accepted}
-use Rattle.printer_writing.specs.Wrote.{written}
+use Rattle.printer_writing.proofs.Writing.{wrote-unique, wrote-as}
 use Rattle.printer_library.specs.Printed.{MatrixAnswer, Printed, Output}
 
 -- the line of the determinant is one, also where there is none
@@ -30,9 +28,9 @@ determinant-same n m {det} {det′} same = go (eqb n m) (λ square. same (eqb-tr
 
 matrix-unique : {p n m d : ℕ} {a w w′ : List ℕ} → Prime p → MatrixAnswer p n m d a w → MatrixAnswer p n m d a w′ → w ≡ w′
 matrix-unique {n = n} {m} {d} P x y =
-    let same = done-unique P (x .reduced) (y .reduced) in
+    let (ranks, counts, results) = alone-unique P (x .reduced) (y .reduced) in
     let dets = determinant-same n m (λ square. determinant-unique P (x .determinant square) (y .determinant square)) in
-    x .is ∙ (λ i. countsText (same i .0) (same i .1) ++ (resultText n m d (same i .3) ++ dets i)) ∙ sym (y .is)
+    x .is ∙ (λ i. countsText (ranks i) (counts i) ++ (resultText n m d (results i) ++ dets i)) ∙ sym (y .is)
 
 pub printed-unique : (s w w′ : List ℕ) → Printed s w → Printed s w′ → w ≡ w′
 printed-unique s w w′ x y =
@@ -46,8 +44,4 @@ printed-unique s w w′ x y =
 -- so two outputs that the promise allows are equal in length and content
 pub output-unique : (s out : List ℕ) (k l : ℕ) (out₁ out₂ : List ℕ) → Output (Printed s) out k out₁ → Output (Printed s) out l out₂
     → (k ≡ l) × (out₁ ≡ out₂)
-output-unique s out k l out₁ out₂ x y =
-    let texts = printed-unique s _ _ (x .is) (y .is) in (
-      x .wrote .next ∙ ap (λ (t : List ℕ). 0 + length t) texts ∙ sym (y .wrote .next),
-      x .wrote .now ∙ ap (λ (t : List ℕ). written out 0 t) texts ∙ sym (y .wrote .now),
-    )
+output-unique s out k l out₁ out₂ x y = wrote-unique (wrote-as (printed-unique s _ _ (x .is) (y .is)) (x .wrote)) (y .wrote)

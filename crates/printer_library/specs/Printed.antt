@@ -4,9 +4,9 @@
 use mathlib.Core.Path.{_≡_}
 use mathlib.Core.List.{List}
 use Prim.Native.Nat.{ℕ, _+_, _≤_, _<_}
-use Rattle.matrix_refusals.specs.Answering.{Told}
-use Rattle.matrix_reduction.specs.Reduced.{IsReduction}
-use Rattle.matrix_determinant.specs.Determinant.{IsDeterminant}
+use Rattle.matrix_promises.specs.Answering.{Told}
+use Rattle.matrix_promises.specs.Reduced.{IsReducedAlone}
+use Rattle.matrix_promises.specs.Determinant.{IsDeterminant}
 use Rattle.printer_format.specs.Line.{Lines}
 use Rattle.printer_format.specs.File.{headLines, numbersOf, headModulus, headRows, headColumns, headDegree, bodyLines}
 use Rattle.printer_format.specs.Answer.{refusalText, answerText, outputRoom}
@@ -17,12 +17,9 @@ use Rattle.printer_writing.specs.Wrote.{Wrote}
 -- makes of a, and "`det=` stands only where n equals m"
 pub record MatrixAnswer (p n m d : ℕ) (a w : List ℕ) : Type 0 where
   pub r : List ℕ
-  pub u : List ℕ
-  pub v : List ℕ
   pub rank : ℕ
   pub count : ℕ
-  pub rows : ℕ
-  pub reduced : IsReduction p n m (d + 1) a r u v rank count rows
+  pub reduced : IsReducedAlone p n m (d + 1) a r rank count
   pub det : List ℕ
   pub determinant : n ≡ m → IsDeterminant p n d a det
   pub is : w ≡ answerText rank count n m d r det

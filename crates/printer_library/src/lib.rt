@@ -9,7 +9,7 @@ ghost use lib.ListN.{length};
 ghost use Rattle.matrix_refusals.specs.Number.{numberOf, placeOf};
 ghost use Rattle.printer_format.specs.Answer.{refusalText};
 ghost use Rattle.printer_library.specs.Printed.{MatrixAnswer, Printed, Output};
-ghost use Rattle.printer_library.specs.Asked.{MatrixAsked, DeterminantAsked, Determined, ResultAsked};
+ghost use Rattle.printer_library.specs.Asked.{MatrixTaken, DeterminantAsked, Determined, ResultAsked};
 
 // Room for every answer.
 pub const OUTPUT: usize = 27928;
@@ -47,8 +47,8 @@ fn put_refused(out: &mut [u8; OUTPUT], x: Refusal) -> usize
 {
     refuse(
         out,
-        matrix_refusals::number_of(x),
-        matrix_refusals::place_of(x),
+        matrix_refusals::table_number(x),
+        matrix_refusals::table_place(x),
     )
 }
 
@@ -83,7 +83,7 @@ fn put_result(
 
 // The answer for a matrix. The reduction does not refuse it: what it would refuse was asked of the text.
 fn put_matrix(out: &mut [u8; OUTPUT], p: u32, n: usize, m: usize, d: usize, a: &[u16]) -> usize
-    requires { ⌜ MatrixAsked p n m d (now a) ⌝ }
+    requires { ⌜ MatrixTaken p n m d (now a) ⌝ }
     ensures { λ e. ⌜ Output (MatrixAnswer p n m d (now (a .entry))) (now (out .entry)) e (now (out .exit)) ⌝ }
 {
     let mut r = places();

@@ -28,7 +28,7 @@ pub enum Cells {
     Wrong(usize),
 }
 
-fn is_digit(b: u8) -> bool
+fn zero_to_nine(b: u8) -> bool
     ensures { λ r. ⌜ r ≡ isDigit b ⌝ }
 {
     if b < b'0' {
@@ -44,7 +44,7 @@ fn digits_end(s: &[u8], at: usize) -> usize
 {
     let mut i = at;
     while i < s.len() {
-        if !is_digit(s[i]) {
+        if !zero_to_nine(s[i]) {
             return i;
         }
         i += 1;
@@ -53,7 +53,7 @@ fn digits_end(s: &[u8], at: usize) -> usize
 }
 
 // Whether n digits have no needless zero in front.
-fn is_plain(s: &[u8], at: usize, n: usize) -> bool
+fn no_zero_in_front(s: &[u8], at: usize, n: usize) -> bool
     requires { ⌜ DigitsAt (now s) at n ⌝ }
     ensures { λ r. ⌜ r ≡ isPlain (digitsOf (drop at (now (s .entry)))) ⌝ }
 {
@@ -64,7 +64,7 @@ fn is_plain(s: &[u8], at: usize, n: usize) -> bool
 }
 
 // What n digits stand for.
-fn value_of(s: &[u8], at: usize, n: usize) -> u32
+fn from_decimal(s: &[u8], at: usize, n: usize) -> u32
     requires { ⌜ DigitsAt (now s) at n ⌝ }
     ensures { λ r. ⌜ r ≡ valueOf (digitsOf (drop at (now (s .entry)))) ⌝ }
 {
@@ -97,10 +97,10 @@ fn read_number(s: &[u8], at: usize) -> Number
     if 5 < n {
         return Number::Bad;
     }
-    if !is_plain(s, at, n) {
+    if !no_zero_in_front(s, at, n) {
         return Number::Bad;
     }
-    let v = value_of(s, at, n);
+    let v = from_decimal(s, at, n);
     if 65535 < v {
         return Number::Bad;
     }
@@ -111,7 +111,7 @@ fn read_number(s: &[u8], at: usize) -> Number
 }
 
 // Whether a key stands at an index.
-fn starts_with(s: &[u8], at: usize, key: &[u8]) -> bool
+fn stands_at(s: &[u8], at: usize, key: &[u8]) -> bool
     requires { ⌜ at ≤ length (now s) ⌝ }
     ensures { λ r. ⌜ r ≡ startsWith (now (key .entry)) (drop at (now (s .entry))) ⌝ }
 {
@@ -134,9 +134,9 @@ fn is_marked(s: &[u8], at: usize, left: usize) -> bool
     ensures { λ r. ⌜ r ≡ startsWith (mark left ∷ []) (drop at (now (s .entry))) ⌝ }
 {
     if left == 0 {
-        return starts_with(s, at, b"\n");
+        return stands_at(s, at, b"\n");
     }
-    starts_with(s, at, b" ")
+    stands_at(s, at, b" ")
 }
 
 // As many numbers as the room has places, each with its mark.
@@ -162,11 +162,11 @@ fn read_numbers(s: &[u8], at: usize, room: &mut [u16]) -> Line
 }
 
 // A line with this key and as many numbers as the room has places.
-fn read_line(s: &[u8], at: usize, key: &[u8], room: &mut [u16]) -> Line
+fn take_line(s: &[u8], at: usize, key: &[u8], room: &mut [u16]) -> Line
     requires { ⌜ at ≤ length (now s) ⌝ }
     ensures { λ r. ⌜ LineRead (readLine (now (key .entry)) (length (now (room .entry))) (drop at (now (s .entry)))) (now (s .entry)) (now (room .exit)) r ⌝ }
 {
-    if !starts_with(s, at, key) {
+    if !stands_at(s, at, key) {
         return Line::Bad;
     }
     read_numbers(s, at + key.len(), room)
@@ -178,7 +178,7 @@ pub fn read_field(s: &[u8], at: usize, key: &[u8]) -> Number
     ensures { λ r. ⌜ FieldRead (readLine (now (key .entry)) 1 (drop at (now (s .entry)))) (now (s .entry)) r ⌝ }
 {
     let mut room = [0u16; 1];
-    let Line::Read(next) = read_line(s, at, key, &mut room) else {
+    let Line::Read(next) = take_line(s, at, key, &mut room) else {
         return Number::Bad;
     };
     Number::Read {
@@ -198,9 +198,9 @@ pub fn read_cells(s: &[u8], at: usize, n: usize, m: usize, d: usize, room: &mut 
     let mut c = 0;
     let mut a = 0;
     while c < count {
-        let key = keys::cell_key(keys::INPUT, m, c);
+        let key = keys::key_of_cell(keys::INPUT, m, c);
         let e = a + width;
-        let Line::Read(next) = read_line(s, i, &key, &mut room[a..e]) else {
+        let Line::Read(next) = take_line(s, i, &key, &mut room[a..e]) else {
             return Cells::Wrong(c);
         };
         i = next;

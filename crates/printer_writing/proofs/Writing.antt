@@ -35,6 +35,10 @@ module _ {l : List ℕ} {a : ℕ} where
     next = q .next ∙ rw (p .next) (simp length-append (omega arith));
   }
 
+  -- what is written determines the index after it and what is held then, in all that `put_refusal` and `put_answer` promise
+  pub wrote-unique : {w : List ℕ} {r₁ r₂ : ℕ} {l₁ l₂ : List ℕ} → Wrote l a w r₁ l₁ → Wrote l a w r₂ l₂ → (r₁ ≡ r₂) × (l₁ ≡ l₂)
+  wrote-unique p q = (p .next ∙ sym (q .next), p .now ∙ sym (q .now))
+
   -- room for one text after another is room for the first, and for the other after it
   module _ (u w : List ℕ) (room : Room l a (u ++ w)) where
     pub first-room : Room l a u

@@ -29,7 +29,7 @@ fn put_bytes(out: &mut [u8], at: usize, w: &[u8]) -> usize
     at + k
 }
 
-fn digit_of(x: usize) -> u8
+fn numeral_of(x: usize) -> u8
     requires { ⌜ x < 10 ⌝ }
     ensures { λ r. ⌜ r ≡ digit x ⌝ }
 {
@@ -42,14 +42,14 @@ fn put_number(out: &mut [u8], at: usize, v: usize) -> usize
     ensures { λ r. ⌜ Wrote (now (out .entry)) at (decimal v) r (now (out .exit)) ⌝ }
 {
     if v < 10 {
-        return put_byte(out, at, digit_of(v));
+        return put_byte(out, at, numeral_of(v));
     }
     let i = put_number(out, at, v / 10);
-    put_byte(out, i, digit_of(v % 10))
+    put_byte(out, i, numeral_of(v % 10))
 }
 
 // What follows a number where further numbers are left.
-fn mark_of(left: usize) -> u8
+fn space_or_feed(left: usize) -> u8
     ensures { λ r. ⌜ r ≡ mark left ⌝ }
 {
     if left == 0 { b'\n' } else { b' ' }
@@ -67,7 +67,7 @@ fn put_marked(out: &mut [u8], at: usize, v: usize, left: usize) -> usize
     ensures { λ r. ⌜ Wrote (now (out .entry)) at (decimal v ++ (mark left ∷ [])) r (now (out .exit)) ⌝ }
 {
     let i = put_number(out, at, v);
-    put_byte(out, i, mark_of(left))
+    put_byte(out, i, space_or_feed(left))
 }
 
 // Numbers, each with its mark.
@@ -113,7 +113,7 @@ fn put_result(out: &mut [u8], at: usize, n: usize, m: usize, d: usize, r: &[u16]
     let mut c = 0;
     let mut a = 0;
     while c < count {
-        let key = keys::cell_key(keys::RESULT, m, c);
+        let key = keys::key_of_cell(keys::RESULT, m, c);
         let e = a + width;
         i = put_line(out, i, &key, &r[a..e]);
         c += 1;

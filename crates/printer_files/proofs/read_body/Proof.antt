@@ -1,6 +1,6 @@
 -- Each return goes by what was found so far.
 use mathlib.Core.Path.{_≡_, sym, ap, subst, _∙_}
-use mathlib.Core.List.{List, [], _++_}
+use mathlib.Core.List.{List, [], _∷_, _++_}
 use borrow.Author.Needs.{needs}
 use native.Mathlib.Nat.{mul-le-mul, mul-assoc}
 use native.Mathlib.Omega.{arith}
@@ -8,9 +8,9 @@ use Prim.Native.Nat.{ℕ, _+_, _*_, _≤_}
 use lib.ListN.{length, take, drop, length-append}
 use lib.Seq.{length-take-le, take-at}
 use Rattle.matrix_buffers.proofs.Bounds.{matrix-few}
-use Rattle.matrix_refusals.specs.Refused.{Numbers}
-use Rattle.matrix_refusals.specs.checks.CheckParts.{OfNumbers, OfCoefficients}
-use Rattle.matrix_refusals.proofs.checks.Verdicts.{in-bounds}
+use Rattle.matrix_refusals.specs.Number.{Verdict}
+use Rattle.matrix_promises.specs.Refused.{Numbers, coefficientRule}
+use Rattle.matrix_refusals.proofs.checks.Verdicts.{numbers-fine, in-bounds}
 use Rattle.printer_format.specs.Line.{Lines, read}
 use Rattle.printer_format.specs.File.{cellLines}
 use Rattle.printer_files.specs.Input.{MatrixRead}
@@ -30,7 +30,7 @@ lines c = let args = start c .args in cellLines (args .n) (args .m) (args .d) (d
 
 -- past the first test the numbers are in range, and the matrix has room
 numbers : (c : tie.After-enum-told) → Numbers (start c .args .p) (start c .args .n) (start c .args .m) (start c .args .d)
-numbers c = subst (OfNumbers _ _ _ _) (c .enum-told .given .1) (c .before .before .check-numbers .ensures)
+numbers c = numbers-fine (c .enum-told .given .1) (c .before .before .check-numbers .ensures)
 
 few-cells : (c : tie.After-enum-told) → start c .args .n * start c .args .m ≤ 64
 few-cells c =
@@ -71,7 +71,7 @@ enum-known-x : tie.Need-enum-known-x
 enum-known-x c = search needs
 
 returns : tie.Need-returns
-returns c = body-numbers (subst (OfNumbers _ _ _ _) (c .before .x .given .1) (c .before .before .before .check-numbers .ensures))
+returns c = let call = c .before .before .before in body-numbers (call .check-numbers .result) (call .check-numbers .ensures) (c .before .x .given .1)
 
 enum-told : tie.Need-enum-told
 enum-told c = search needs
@@ -136,7 +136,7 @@ same-length-2 c = search needs
 returns-3 : tie.Need-returns-3
 returns-3 c =
     body-coefficient (numbers (search needs)) (cells (search needs))
-    (subst (OfCoefficients _ _) (c .before .x2 .given .1) (c .before .before .before .check-coefficients .ensures))
+    (subst (Verdict (coefficientRule _ _ ∷ [])) (c .before .x2 .given .1) (c .before .before .before .check-coefficients .ensures))
 
 enum-told-3 : tie.Need-enum-told-3
 enum-told-3 c = search needs
@@ -147,7 +147,7 @@ same-length-3 c = search needs
 returns-4 : tie.Need-returns-4
 returns-4 c =
     body-matrix (numbers (search needs)) (cells (search needs))
-    (subst (OfCoefficients _ _) (c .enum-told3 .given .1) (c .before .before .check-coefficients .ensures))
+    (subst (Verdict (coefficientRule _ _ ∷ [])) (c .enum-told3 .given .1) (c .before .before .check-coefficients .ensures))
 
 pub read-body-spec : {M : Type 1} → statement M
 read-body-spec =

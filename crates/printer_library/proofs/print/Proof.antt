@@ -11,7 +11,7 @@ use Rattle.matrix_refusals.proofs.checks.Verdicts.{in-bounds}
 use Rattle.printer_files.specs.Input.{FileRead}
 use Rattle.printer_files.specs.declared.Input.{Input}
 use Rattle.printer_files.specs.declared.Input.the-variants.{Format, Refused, Matrix}
-use Rattle.printer_library.specs.Asked.{MatrixAsked}
+use Rattle.printer_library.specs.Asked.{MatrixTaken}
 use Rattle.printer_library.proofs.Answers.{output-as, printed-refused, printed-matrix, matrix-asked}
 use Rattle.printer_library.proofs.print.Statement.{statement}
 use Rattle.printer_library.proofs.print.Tie as tie
@@ -44,7 +44,7 @@ matrix : (c : tie.After-p) → let found = c .p .given .0 in
 matrix c = as-read (arm c) (c .p .given .1)
 
 asked : (c : tie.After-p) → let found = c .p .given .0 in
-    MatrixAsked (found .0) (found .1 .0) (found .1 .1 .0) (found .1 .1 .1 .0)
+    MatrixTaken (found .0) (found .1 .0) (found .1 .1 .0) (found .1 .1 .1 .0)
     (take (found .1 .0 * (found .1 .1 .0 * (found .1 .1 .1 .0 + 1))) (room (arm c)))
 asked c = matrix-asked (text (arm c)) (matrix c) (full (arm c))
 

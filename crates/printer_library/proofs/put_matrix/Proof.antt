@@ -6,7 +6,7 @@ use native.Mathlib.Omega.{arith}
 use lib.ListN.{length, take, drop}
 use lib.Seq.{length-take-le, length-front, take-at}
 use Rattle.matrix_buffers.proofs.Bounds.{row-few, matrix-few, cell-few, square-few, transform-few}
-use Rattle.matrix_refusals.specs.Refused.{Numbers}
+use Rattle.matrix_promises.specs.Refused.{Numbers}
 use Rattle.matrix_refusals.proofs.checks.Verdicts.{in-bounds}
 use Rattle.printer_library.proofs.Answers.{ReducedTo, reduced-to}
 use Rattle.printer_library.proofs.put_matrix.Statement.{statement}

@@ -100,11 +100,8 @@ returns c =
     let asked = start (made determined) .pre in
     output (record {
       r = _;
-      u = asked .u;
-      v = asked .v;
       rank = _;
       count = _;
-      rows = asked .rows;
       reduced = asked .reduced;
       det = front determined;
       determinant = found determined .determinant;

@@ -17,16 +17,16 @@ abbrev μ-loop : tie.MeasureT-loop
 loop-holds : tie.Need-loop-holds Inv-loop μ-loop
 loop-holds c = record { inside = c .before .pre; same = refl }
 
-shared-slice-read-is-digit : tie.Need-shared-slice-read-is-digit Inv-loop μ-loop
-shared-slice-read-is-digit c = omega arith
+shared-slice-read-zero-to-nine : tie.Need-shared-slice-read-zero-to-nine Inv-loop μ-loop
+shared-slice-read-zero-to-nine c = omega arith
 
-is-digit-requires : tie.Need-is-digit-requires Inv-loop μ-loop
-is-digit-requires c κs = search needs
+zero-to-nine-requires : tie.Need-zero-to-nine-requires Inv-loop μ-loop
+zero-to-nine-requires c κs = search needs
 
 returns : tie.Need-returns Inv-loop μ-loop
 returns c =
     let test = c .before .before .before in
-    passing-stop _ _ _ (test .before .loop .inv) (test .loop-test .taken) (sym (c .before .is-digit .ensures) ∙ not-true _ (c .if1 .taken))
+    passing-stop _ _ _ (test .before .loop .inv) (test .loop-test .taken) (sym (c .before .zero-to-nine .ensures) ∙ not-true _ (c .if1 .taken))
 
 add-i : tie.Need-add-i Inv-loop μ-loop
 add-i c = omega arith
@@ -37,7 +37,7 @@ loop-less c = omega arith
 loop-again : tie.Need-loop-again Inv-loop μ-loop
 loop-again c =
     let test = c .before .before .before in
-    passing-turn _ _ _ (test .before .loop .inv) (test .loop-test .taken) (sym (c .before .is-digit .ensures) ∙ not-false _ (c .if1 .left))
+    passing-turn _ _ _ (test .before .loop .inv) (test .loop-test .taken) (sym (c .before .zero-to-nine .ensures) ∙ not-false _ (c .if1 .left))
 
 returns-2 : tie.Need-returns-2 Inv-loop μ-loop
 returns-2 c = passing-end _ _ _ (c .before .loop .inv) (c .loop-test .left)
@@ -49,8 +49,8 @@ digits-end-spec =
     Inv-loop
     μ-loop
     loop-holds
-    shared-slice-read-is-digit
-    is-digit-requires
+    shared-slice-read-zero-to-nine
+    zero-to-nine-requires
     returns
     add-i
     loop-less

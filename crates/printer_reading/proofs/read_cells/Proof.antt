@@ -27,16 +27,16 @@ within : (c : tie.In-loop Inv-loop μ-loop) → c .before .loop .a + (start c .a
 within c = storing-room _ _ _ _ _ _ _ _ _ (c .before .loop .inv) (c .loop-test .taken)
 
 -- the turn that a line is read in
-abbrev turn : tie.After-read-line Inv-loop μ-loop → tie.In-loop Inv-loop μ-loop
+abbrev turn : tie.After-take-line Inv-loop μ-loop → tie.In-loop Inv-loop μ-loop
 turn c = c .before .before .before .before
 
 -- what was read of the next line
-line-read : (c : tie.After-read-line Inv-loop μ-loop) → let args = start (turn c) .args in let s = args .s .now in
+line-read : (c : tie.After-take-line Inv-loop μ-loop) → let args = start (turn c) .args in let s = args .s .now in
     let key = cellKey (bytes "a11=") (args .m) (turn c .before .loop .c) in
-    LineRead (readLine key (args .d + 1) (drop (turn c .before .loop .i) s)) s (c .read-line .last .1 .1 .1 .0) (c .read-line .result)
+    LineRead (readLine key (args .d + 1) (drop (turn c .before .loop .i) s)) s (c .take-line .last .1 .1 .1 .0) (c .take-line .result)
 line-read c =
     let size = storing-part _ _ _ _ _ _ _ _ _ (turn c .before .loop .inv) (turn c .loop-test .taken) in
-    rw (c .before .before .before .cell-key .ensures, size) at (c .read-line .ensures)
+    rw (c .before .before .before .key-of-cell .ensures, size) at (c .take-line .ensures)
 
 mul-count : tie.Need-mul-count Inv-loop μ-loop
 mul-count c =
@@ -49,8 +49,8 @@ add-width c = omega (arith, c .before .before .pre .degree)
 loop-holds : tie.Need-loop-holds Inv-loop μ-loop
 loop-holds c = storing-start _ _ _ _ _ _ (c .before .before .pre .places) (c .before .before .pre .inside)
 
-cell-key-requires : tie.Need-cell-key-requires Inv-loop μ-loop
-cell-key-requires c κs =
+key-of-cell-requires : tie.Need-key-of-cell-requires Inv-loop μ-loop
+key-of-cell-requires c κs =
     let asked = start c .pre in
     let before = mul-le-mul-right (start c .args .m) (asked .rows) in
     record { some = asked .some-columns; columns = asked .columns; rows = omega (arith, c .loop-test .taken, before) }
@@ -58,23 +58,23 @@ cell-key-requires c κs =
 add-e : tie.Need-add-e Inv-loop μ-loop
 add-e c = omega (arith, within (c .before))
 
-slice-aggregate-read-line : tie.Need-slice-aggregate-read-line Inv-loop μ-loop
-slice-aggregate-read-line c = search needs
+slice-aggregate-take-line : tie.Need-slice-aggregate-take-line Inv-loop μ-loop
+slice-aggregate-take-line c = search needs
 
-mul-read-line : tie.Need-mul-read-line Inv-loop μ-loop
-mul-read-line c = omega (arith, within (c .before .before))
+mul-take-line : tie.Need-mul-take-line Inv-loop μ-loop
+mul-take-line c = omega (arith, within (c .before .before))
 
-sub-read-line : tie.Need-sub-read-line Inv-loop μ-loop
-sub-read-line c = omega arith
+sub-take-line : tie.Need-sub-take-line Inv-loop μ-loop
+sub-take-line c = omega arith
 
-part-read-line-start : tie.Need-part-read-line-start Inv-loop μ-loop
-part-read-line-start c = omega arith
+part-take-line-start : tie.Need-part-take-line-start Inv-loop μ-loop
+part-take-line-start c = omega arith
 
-part-read-line-end : tie.Need-part-read-line-end Inv-loop μ-loop
-part-read-line-end c = within (c .before .before)
+part-take-line-end : tie.Need-part-take-line-end Inv-loop μ-loop
+part-take-line-end c = within (c .before .before)
 
-read-line-requires : tie.Need-read-line-requires Inv-loop μ-loop
-read-line-requires c κs = search needs
+take-line-requires : tie.Need-take-line-requires Inv-loop μ-loop
+take-line-requires c κs = search needs
 
 enum-known-next : tie.Need-enum-known-next Inv-loop μ-loop
 enum-known-next c = search needs
@@ -84,13 +84,13 @@ enum-told c = search needs
 
 same-length : tie.Need-same-length Inv-loop μ-loop
 same-length c =
-    let call : tie.After-read-line Inv-loop μ-loop = search needs in
+    let call : tie.After-take-line Inv-loop μ-loop = search needs in
     storing-size _ _ _ _ _ _ _ _ _ (turn call .before .loop .inv) (turn call .loop-test .taken)
-    (call .read-line .last .1 .1 .1 .0) (call .read-line .kept .1 .1 .1 .0) ∙ sym (start (turn call) .pre .places)
+    (call .take-line .last .1 .1 .1 .0) (call .take-line .kept .1 .1 .1 .0) ∙ sym (start (turn call) .pre .places)
 
 returns : tie.Need-returns Inv-loop μ-loop
 returns c =
-    let call : tie.After-read-line Inv-loop μ-loop = search needs in
+    let call : tie.After-take-line Inv-loop μ-loop = search needs in
     storing-wrong _ _ _ _ _ _ _ _ _ (turn call .before .loop .inv) (turn call .loop-test .taken)
     (subst (LineRead _ _ _) (c .enum-told .given .1) (line-read call))
 
@@ -102,8 +102,8 @@ loop-less c = omega arith
 
 loop-again : tie.Need-loop-again Inv-loop μ-loop
 loop-again c =
-    let call : tie.After-read-line Inv-loop μ-loop = search needs in
-    storing-turn _ _ _ _ _ _ _ _ _ (turn call .before .loop .inv) (turn call .loop-test .taken) _ (call .read-line .kept .1 .1 .1 .0) _
+    let call : tie.After-take-line Inv-loop μ-loop = search needs in
+    storing-turn _ _ _ _ _ _ _ _ _ (turn call .before .loop .inv) (turn call .loop-test .taken) _ (call .take-line .kept .1 .1 .1 .0) _
     (subst (LineRead _ _ _) (c .before .next .given .1) (line-read call))
 
 same-length-2 : tie.Need-same-length-2 Inv-loop μ-loop
@@ -121,14 +121,14 @@ read-cells-spec =
     mul-count
     add-width
     loop-holds
-    cell-key-requires
+    key-of-cell-requires
     add-e
-    slice-aggregate-read-line
-    mul-read-line
-    sub-read-line
-    part-read-line-start
-    part-read-line-end
-    read-line-requires
+    slice-aggregate-take-line
+    mul-take-line
+    sub-take-line
+    part-take-line-start
+    part-take-line-end
+    take-line-requires
     enum-known-next
     enum-told
     same-length

@@ -28,7 +28,7 @@ digits c = record { some = omega (arith, c .before .if1 .left); few = c .if2 .le
 
 -- past the third there is no needless zero
 plain : (c : tie.Else3) → isPlain (word (c .before .before .before .before)) ≡ true
-plain c = sym (c .before .is-plain .ensures) ∙ not-false _ (c .if3 .left)
+plain c = sym (c .before .no-zero-in-front .ensures) ∙ not-false _ (c .if3 .left)
 
 digits-end-requires : tie.Need-digits-end-requires
 digits-end-requires c κs = search needs
@@ -42,19 +42,19 @@ returns c = number-bad _ (too-few _ (omega (arith, count (c .before))))
 returns-2 : tie.Need-returns-2
 returns-2 c = let end = c .before .before in number-bad _ (too-many _ (omega (arith, count end, c .before .if1 .left)) (omega (arith, count end)))
 
-is-plain-requires : tie.Need-is-plain-requires
-is-plain-requires c κs = digits c
+no-zero-in-front-requires : tie.Need-no-zero-in-front-requires
+no-zero-in-front-requires c κs = digits c
 
 returns-3 : tie.Need-returns-3
-returns-3 c = no-plain-number _ _ _ (digits (c .before .before)) (sym (c .before .is-plain .ensures) ∙ not-true _ (c .if3 .taken))
+returns-3 c = no-plain-number _ _ _ (digits (c .before .before)) (sym (c .before .no-zero-in-front .ensures) ∙ not-true _ (c .if3 .taken))
 
-value-of-requires : tie.Need-value-of-requires
-value-of-requires c κs = digits (c .before .before)
+from-decimal-requires : tie.Need-from-decimal-requires
+from-decimal-requires c κs = digits (c .before .before)
 
 returns-4 : tie.Need-returns-4
 returns-4 c =
     let test = c .before .before in
-    no-small-number _ _ _ (digits (test .before .before)) (plain test) (omega (arith, c .before .value-of .ensures))
+    no-small-number _ _ _ (digits (test .before .before)) (plain test) (omega (arith, c .before .from-decimal .ensures))
 
 cast-t8 : tie.Need-cast-t8
 cast-t8 c = search needs
@@ -65,8 +65,8 @@ returns-5 c =
     let end : tie.After-digits-end = search needs in
     let start = end .before .before in
     record {
-      is = rw (c .before .value-of .ensures)
-          (number-here _ _ _ (digits (test .before .before)) (plain test) _ (end .digits-end .ensures) (omega (arith, c .before .value-of .ensures)));
+      is = rw (c .before .from-decimal .ensures)
+          (number-here _ _ _ (digits (test .before .before)) (plain test) _ (end .digits-end .ensures) (omega (arith, c .before .from-decimal .ensures)));
       inside = omega (arith, digits-inside (start .args .s .now) (start .args .at) (start .pre), end .digits-end .ensures);
     }
 
@@ -78,9 +78,9 @@ read-number-spec =
     sub-n
     returns
     returns-2
-    is-plain-requires
+    no-zero-in-front-requires
     returns-3
-    value-of-requires
+    from-decimal-requires
     returns-4
     cast-t8
     returns-5)

@@ -9,13 +9,13 @@ use Rattle.printer_writing.proofs.put_marked.Tie as tie
 put-number-requires : tie.Need-put-number-requires
 put-number-requires c κs = search (needs, first-room)
 
-mark-of-requires : tie.Need-mark-of-requires
-mark-of-requires c κs = search needs
+space-or-feed-requires : tie.Need-space-or-feed-requires
+space-or-feed-requires c κs = search needs
 
 put-byte-requires : tie.Need-put-byte-requires
 put-byte-requires c κs =
     let number : tie.After-put-number = search needs in
-    rw (c .mark-of .ensures) (next-room _ _ (number .before .before .before .pre) (number .put-number .ensures))
+    rw (c .space-or-feed .ensures) (next-room _ _ (number .before .before .before .pre) (number .put-number .ensures))
 
 same-length : tie.Need-same-length
 same-length c = search needs
@@ -24,7 +24,7 @@ returns : tie.Need-returns
 returns c =
     let byte = c .before .before in
     let number : tie.After-put-number = search needs in
-    wrote-then (number .put-number .ensures) (wrote-as (ap (λ (x : ℕ). x ∷ []) (byte .before .mark-of .ensures)) (byte .put-byte .ensures))
+    wrote-then (number .put-number .ensures) (wrote-as (ap (λ (x : ℕ). x ∷ []) (byte .before .space-or-feed .ensures)) (byte .put-byte .ensures))
 
 pub put-marked-spec : {M : Type 1} → statement M
-put-marked-spec = tie.close (tie.spec put-number-requires mark-of-requires put-byte-requires same-length returns)
+put-marked-spec = tie.close (tie.spec put-number-requires space-or-feed-requires put-byte-requires same-length returns)

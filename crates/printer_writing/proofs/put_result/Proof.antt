@@ -46,8 +46,8 @@ add-width c = omega (arith, c .before .before .pre .matrix .degree)
 loop-holds : tie.Need-loop-holds Inv-loop μ-loop
 loop-holds c = (sym (zero-mul _), rw sub-zero begun-start)
 
-cell-key-requires : tie.Need-cell-key-requires Inv-loop μ-loop
-cell-key-requires c κs =
+key-of-cell-requires : tie.Need-key-of-cell-requires Inv-loop μ-loop
+key-of-cell-requires c κs =
     let asked = start c .pre .matrix in
     let before = mul-le-mul-right (start c .args .m) (asked .rows) in
     record { some = asked .some-columns; columns = asked .columns; rows = omega (arith, c .loop-test .taken, before) }
@@ -75,7 +75,7 @@ put-line-requires c κs =
     let key = c .before .before .before in
     let test = key .before in
     let room = begun-room (test .before .loop .inv .1) (start test .pre .room) in
-    rw (key .cell-key .ensures) (first-room _ _ (subst (Room _ _) (lines-next _ _ _ _ _ _ (test .loop-test .taken)) room))
+    rw (key .key-of-cell .ensures) (first-room _ _ (subst (Room _ _) (lines-next _ _ _ _ _ _ (test .loop-test .taken)) room))
 
 add-c : tie.Need-add-c Inv-loop μ-loop
 add-c c = omega arith
@@ -86,11 +86,11 @@ loop-less c = omega arith
 loop-again : tie.Need-loop-again Inv-loop μ-loop
 loop-again c =
     let put = c .before .before in
-    let key : tie.After-cell-key Inv-loop μ-loop = search needs in
+    let key : tie.After-key-of-cell Inv-loop μ-loop = search needs in
     let test = key .before in (
       omega (arith, test .before .loop .inv .0, suc-mul (test .before .loop .c) (start test .args .d + 1), add-one (test .before .loop .c)),
       begun-more (test .before .loop .inv .1) _ (lines-next _ _ _ _ _ _ (test .loop-test .taken))
-          (rw (key .cell-key .ensures) at (put .put-line .ensures)),
+          (rw (key .key-of-cell .ensures) at (put .put-line .ensures)),
     )
 
 same-length : tie.Need-same-length Inv-loop μ-loop
@@ -108,7 +108,7 @@ put-result-spec =
     mul-count
     add-width
     loop-holds
-    cell-key-requires
+    key-of-cell-requires
     add-e
     slice-aggregate-put-line
     mul-put-line

@@ -2,8 +2,8 @@ use Prim.Native.Nat.{_+_, _-_, _<_}
 use native.Mathlib.Omega.{arith}
 use borrow.Author.Needs.{needs}
 use Rattle.printer_reading.proofs.Digits.{Here, Valuing, valuing-start, next-here, value-small, valuing-turn, valuing-end}
-use Rattle.printer_reading.proofs.value_of.Statement.{statement}
-use Rattle.printer_reading.proofs.value_of.Tie as tie
+use Rattle.printer_reading.proofs.from_decimal.Statement.{statement}
+use Rattle.printer_reading.proofs.from_decimal.Tie as tie
 
 abbrev Inv-loop : tie.InvT-loop
 Inv-loop s at n v₀ k₀ v k = Valuing s at n v k
@@ -53,8 +53,8 @@ loop-again c =
 returns : tie.Need-returns Inv-loop μ-loop
 returns c = valuing-end _ _ _ (c .before .before .before .pre) _ _ (c .before .loop .inv) (c .loop-test .left)
 
-pub value-of-spec : {M : Type 1} → statement M
-value-of-spec =
+pub from-decimal-spec : {M : Type 1} → statement M
+from-decimal-spec =
     tie.close
     (tie.spec
     Inv-loop

@@ -2,8 +2,8 @@
 use borrow.Author.Needs.{needs}
 use native.Mathlib.Omega.{arith}
 use native.Mathlib.Nat.{div-lt-iff-lt-mul, mod-lt}
-use Rattle.printer_format.proofs.keys.cell_key.Statement.{statement}
-use Rattle.printer_format.proofs.keys.cell_key.Tie as tie
+use Rattle.printer_format.proofs.keys.key_of_cell.Statement.{statement}
+use Rattle.printer_format.proofs.keys.key_of_cell.Tie as tie
 
 div-i : tie.Need-div-i
 div-i c = search needs
@@ -26,5 +26,5 @@ array-write-key-2 c = search needs
 returns : tie.Need-returns
 returns c = rw (c .before .numeral .ensures, c .numeral2 .ensures)
 
-pub cell-key-spec : {M : Type 1} → statement M
-cell-key-spec = tie.close (tie.spec div-i rem-j numeral-requires array-write-key numeral-requires-2 array-write-key-2 returns)
+pub key-of-cell-spec : {M : Type 1} → statement M
+key-of-cell-spec = tie.close (tie.spec div-i rem-j numeral-requires array-write-key numeral-requires-2 array-write-key-2 returns)

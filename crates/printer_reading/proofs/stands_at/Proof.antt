@@ -2,8 +2,8 @@ use Prim.Native.Nat.{_-_}
 use native.Mathlib.Omega.{arith}
 use lib.ListN.{length}
 use Rattle.printer_reading.proofs.Comparing.{Comparing, too-short, comparing-start, comparing-turn, comparing-other, comparing-end}
-use Rattle.printer_reading.proofs.starts_with.Statement.{statement}
-use Rattle.printer_reading.proofs.starts_with.Tie as tie
+use Rattle.printer_reading.proofs.stands_at.Statement.{statement}
+use Rattle.printer_reading.proofs.stands_at.Tie as tie
 
 abbrev Inv-loop : tie.InvT-loop
 Inv-loop s at key i₀ i = Comparing s at key i
@@ -48,8 +48,8 @@ loop-again c =
 returns-3 : tie.Need-returns-3 Inv-loop μ-loop
 returns-3 c = comparing-end _ _ _ (omega arith) _ (c .before .loop .inv) (c .loop-test .left)
 
-pub starts-with-spec : {M : Type 1} → statement M
-starts-with-spec =
+pub stands-at-spec : {M : Type 1} → statement M
+stands-at-spec =
     tie.close
     (tie.spec
     Inv-loop
