@@ -7,25 +7,27 @@ use native.Mathlib.Omega.{arith}
 use lib.ListN.{length, getD, replicate, length-replicate}
 use Rattle.theory_algebra.specs.Prime.{Prime}
 use Rattle.theory_algebra.specs.Residue.{Zp}
-use Rattle.theory_algebra.proofs.PrimeField.{zp-field, field-zero}
+use Rattle.theory_rings.specs.PrimeField.{zp-field}
+use Rattle.theory_rings.proofs.PrimeField.{field-zero}
 use Rattle.theory_lists.specs.Change.{imap}
 use Rattle.theory_lists.proofs.Change.{length-imap, getD-imap}
 use Rattle.theory_lists.proofs.Grid.{within}
 use Rattle.theory_lattice.specs.Row.{Row}
 use Rattle.theory_lattice.specs.PolynomialMatrix.{AllBounded}
-use Rattle.matrix_buffers.specs.Held.{Held}
-use Rattle.matrix_buffers.specs.Place.{inRow, spot}
-use Rattle.matrix_buffers.proofs.Place.{block-own, spot-inside, by-rows}
+use Rattle.matrix_promises.specs.Held.{Held}
+use Rattle.theory_lists.specs.Place.{inRow, spot}
+use Rattle.matrix_promises.specs.Layout.{by-rows}
+use Rattle.theory_lists.proofs.Place.{block-own, spot-inside}
 
 -- f 0, f 1 and so on, `count` numbers
 unfoldable pub listing : ℕ → (ℕ → ℕ) → List ℕ
 listing count f = imap (λ i _. f i) (replicate count 0)
 
-pub length-listing : (count : ℕ) (f : ℕ → ℕ) → length (listing count f) ≡ count
+length-listing : (count : ℕ) (f : ℕ → ℕ) → length (listing count f) ≡ count
 unfolding listing
 length-listing count f = length-imap _ (replicate count 0) ∙ length-replicate {A = ℕ} count 0
 
-pub getD-listing : (count : ℕ) (f : ℕ → ℕ) (i : ℕ) → i < count → getD (listing count f) i 0 ≡ f i
+getD-listing : (count : ℕ) (f : ℕ → ℕ) (i : ℕ) → i < count → getD (listing count f) i 0 ≡ f i
 unfolding listing
 getD-listing count f i l = getD-imap _ (replicate count 0) i (omega (arith, length-replicate {A = ℕ} count 0))
 

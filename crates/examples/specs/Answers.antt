@@ -4,34 +4,25 @@ use mathlib.Core.List.{List}
 use Prim.Native.Nat.{ℕ, _+_, _<_}
 use lib.ListN.{length, getD}
 use Rattle.theory_algebra.specs.Prime.{Prime}
-use Rattle.theory_algebra.proofs.PrimeField.{zp-field}
-use Rattle.matrix_buffers.specs.Held.{matrixOf}
-use Rattle.matrix_buffers.proofs.Place.{by-rows}
+use Rattle.theory_rings.specs.PrimeField.{zp-field}
+use Rattle.matrix_promises.specs.Held.{matrixOf}
+use Rattle.matrix_promises.specs.Layout.{by-rows}
 use Rattle.theory_reduction.specs.Pivot.{values, index}
-use Rattle.matrix_refusals.specs.Refused.{reductionSizes}
-use Rattle.matrix.specs.Reduction.{lengths, Promised}
-use Rattle.matrix.specs.PopovForm.{PopovPromised}
+use Rattle.matrix_promises.specs.Refused.{reductionSizes}
+use Rattle.matrix_promises.specs.Service.{Promise}
+use Rattle.matrix_promises.specs.Services.{WholeCall, ReductionOutcome, PopovOutcome, lengths, reduction, popovForm}
+
+-- a call of the reduction or of the Popov form, whose buffers hold r, u and v at entry
+abbrev pub callOf : (p n m d : ℕ) (a r u v : List ℕ) → WholeCall
+callOf p n m d a r u v = record { p = p; n = n; m = m; d = d; a = a; r = r; u = u; v = v }
 
 -- the answers to a call of the reduction and to one of the Popov form, as these services promise them: buffers have the lengths of the
--- paper's table, and r₀, u₀ and v₀ are what they hold at entry
+-- paper's table, and hold anything at entry
 pub record Answers (p n m d : ℕ) (a : List ℕ) : Type 0 where
-  -- R, U and V, the rank, the count, and the list of rows
-  pub r : List ℕ
-  pub u : List ℕ
-  pub v : List ℕ
-  pub rank : ℕ
-  pub steps : ℕ
-  pub rows : ℕ
-  pub reduced : (r₀ u₀ v₀ : List ℕ) → lengths a r₀ u₀ v₀ ≡ reductionSizes n m d → Promised p n m d a r₀ u₀ v₀ r u v 0 0 rank steps rows
-  -- P with its own U and V, its rank, and the two counts
-  pub popov-r : List ℕ
-  pub popov-u : List ℕ
-  pub popov-v : List ℕ
-  pub popov-rank : ℕ
-  pub first : ℕ
-  pub second : ℕ
-  pub formed : (r₀ u₀ v₀ : List ℕ) → lengths a r₀ u₀ v₀ ≡ reductionSizes n m d
-      → PopovPromised p n m d a r₀ u₀ v₀ popov-r popov-u popov-v 0 0 popov-rank first second
+  pub weak : ReductionOutcome
+  pub reduced : (r u v : List ℕ) → lengths (callOf p n m d a r u v) ≡ reductionSizes n m d → Promise reduction (callOf p n m d a r u v) 0 0 weak
+  pub popov : PopovOutcome
+  pub formed : (r u v : List ℕ) → lengths (callOf p n m d a r u v) ≡ reductionSizes n m d → Promise popovForm (callOf p n m d a r u v) 0 0 popov
 
 -- l has the pivot index of each row
 pub record ArePivots (p n m d : ℕ) (a l : List ℕ) : Type 0 where

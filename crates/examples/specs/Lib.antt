@@ -1,3 +1,4 @@
 pub mod Answers
 pub mod Example
 pub mod WExamples
+pub mod Printer
