@@ -27,11 +27,11 @@ use Rattle.theory_determinant.specs.Determinant.{det}
 use Rattle.theory_determinant.proofs.Degree.{det-below}
 use Rattle.theory_lists.specs.Coefficients.{Coefficients}
 use Rattle.matrix_promises.specs.Answering.{Told}
-use Rattle.matrix_promises.specs.Refused.{Numbers, reductionSizes, lengthRule, coefficientRule, matrixTable}
+use Rattle.matrix_promises.specs.Refused.{Numbers, reduction_sizes, length_rule, coefficient_rule, matrix_table}
 use Rattle.matrix_refusals.proofs.Answering.{answer-done}
 use Rattle.matrix_promises.proofs.Tables.{past-numbers}
-use Rattle.matrix_promises.specs.Held.{matrixOf}
-use Rattle.matrix_promises.proofs.Held.{held-matrixOf, held-bounded}
+use Rattle.matrix_promises.specs.Held.{matrix_of}
+use Rattle.matrix_promises.proofs.Held.{held-matrix_of, held-bounded}
 use Rattle.matrix_promises.specs.Layout.{by_rows}
 use Rattle.matrix_promises.specs.Holding.{Holding}
 use Rattle.matrix_promises.specs.RowList.{mask_of, ListedBy}
@@ -72,10 +72,10 @@ module _ {p n m d : ℕ} {a : List ℕ} (taken : Taken p n m d a) where
   K = zp-field p prime
 
   abbrev A : ℕ → Row (Zp p)
-  A = matrixOf (by_rows n m w) p positive a
+  A = matrix_of (by_rows n m w) p positive a
 
   pub bounded : AllBounded K.ring n m w A
-  bounded = held-bounded (by_rows n m w) p prime (held-matrixOf (by_rows n m w) p positive a taken.size taken.residues)
+  bounded = held-bounded (by_rows n m w) p prime (held-matrix_of (by_rows n m w) p positive a taken.size taken.residues)
 
   rows : 0 < n
   rows = omega (arith, taken.numbers.shape.rows)
@@ -86,8 +86,8 @@ module _ {p n m d : ℕ} {a : List ℕ} (taken : Taken p n m d a) where
   pub places : 0 < w
   places = omega arith
 
-  pub told-to : {given : List ℕ} → given ≡ reductionSizes n m d → Told (matrixTable p n m d given (reductionSizes n m d) a) 0 0
-  told-to {given} right = past-numbers (lengthRule given (reductionSizes n m d) ∷ coefficientRule p a ∷ []) taken.numbers
+  pub told-to : {given : List ℕ} → given ≡ reduction_sizes n m d → Told (matrix_table p n m d given (reduction_sizes n m d) a) 0 0
+  told-to {given} right = past-numbers (length_rule given (reduction_sizes n m d) ∷ coefficient_rule p a ∷ []) taken.numbers
       (inr (right, inr (taken.residues, (refl, refl))))
 
   pub holding : (t : Carried (Zp p)) → AllBounded K.ring n m w t.R

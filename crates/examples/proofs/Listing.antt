@@ -10,12 +10,12 @@ use Rattle.theory_algebra.specs.Residue.{Zp}
 use Rattle.theory_rings.specs.PrimeField.{zp-field}
 use Rattle.theory_rings.proofs.PrimeField.{field-zero}
 use Rattle.theory_lists.specs.Change.{imap}
-use Rattle.theory_lists.proofs.Change.{length-imap, getD-imap}
+use Rattle.theory_lists.proofs.Change.{length-imap, get_or-imap}
 use Rattle.theory_lists.proofs.Grid.{within}
 use Rattle.theory_lattice.specs.Row.{Row}
 use Rattle.theory_lattice.specs.PolynomialMatrix.{AllBounded}
 use Rattle.matrix_promises.specs.Held.{Held}
-use Rattle.theory_lists.specs.Place.{inRow, spot}
+use Rattle.theory_lists.specs.Place.{place_in_row, spot}
 use Rattle.matrix_promises.specs.Layout.{by_rows}
 use Rattle.theory_lists.proofs.Place.{block-own, spot-inside}
 
@@ -27,9 +27,9 @@ length-listing : (count : ℕ) (f : ℕ → ℕ) → length (listing count f) �
 unfolding listing
 length-listing count f = length-imap _ (replicate count 0) ∙ length-replicate {A = ℕ} count 0
 
-getD-listing : (count : ℕ) (f : ℕ → ℕ) (i : ℕ) → i < count → get_or (listing count f) i 0 ≡ f i
+get_or-listing : (count : ℕ) (f : ℕ → ℕ) (i : ℕ) → i < count → get_or (listing count f) i 0 ≡ f i
 unfolding listing
-getD-listing count f i l = getD-imap _ (replicate count 0) i (omega (arith, length-replicate {A = ℕ} count 0))
+get_or-listing count f i l = get_or-imap _ (replicate count 0) i (omega (arith, length-replicate {A = ℕ} count 0))
 
 -- a place tells its block and its place in the block
 block : (s i r : ℕ) → r < s → ((i * s + r) / s ≡ i) × ((i * s + r) % s ≡ r)
@@ -49,9 +49,9 @@ module _ {p : ℕ} (P : Prime p) where
     held-written bounded = record {
       size = length-listing (n * (m * w)) _;
       at = λ i j t li lj lt.
-          let (row, in_row) = block (m * w) i (inRow w j t) (within j t m w lj lt) in
+          let (row, in_row) = block (m * w) i (place_in_row w j t) (within j t m w lj lt) in
           let (col, deg) = block w j t lt in
-          getD-listing (n * (m * w)) _ (spot m w i j t) (spot-inside n m w i j t li lj lt)
+          get_or-listing (n * (m * w)) _ (spot m w i j t) (spot-inside n m w i j t li lj lt)
           ∙ (λ s. (M (row s) (in_row s / w) (in_row s % w)).val) ∙ (λ s. (M i (col s) (deg s)).val);
       beyond = λ i j t li lj past. number-zero (bounded i li j lj t past);
     }

@@ -22,15 +22,15 @@ use Rattle.theory_algebra.specs.Modulus.{Accepted}
 use Rattle.theory_lists.specs.Coefficients.{Coefficients}
 use Rattle.matrix_buffers.specs.Diagonal.{Diagonal}
 use Rattle.theory_lists.specs.Place.{spot}
-use Rattle.matrix_promises.specs.Held.{Held, matrixOf}
+use Rattle.matrix_promises.specs.Held.{Held, matrix_of}
 use Rattle.matrix_buffers.proofs.Diagonal.{held-identity}
-use Rattle.matrix_promises.proofs.Held.{held-matrixOf, held-matrix-same}
+use Rattle.matrix_promises.proofs.Held.{held-matrix_of, held-matrix-same}
 use Rattle.matrix_promises.specs.Layout.{by_rows}
 use Rattle.matrix_pivots.specs.Pivot.{value_of, row_of}
 use Rattle.matrix_refusals.proofs.Answering.{answer-done}
 use Rattle.matrix_promises.specs.Reduced.{ReducedBy}
 use Rattle.matrix_promises.specs.RowList.{ListedBy}
-use Rattle.theory_lists.specs.Last.{lastNonzero}
+use Rattle.theory_lists.specs.Last.{last_nonzero}
 use Rattle.theory_lists.specs.Total.{total}
 use Rattle.theory_reduction.specs.Rank.{sign}
 use Rattle.matrix_steps.proofs.Value.{value-held}
@@ -62,19 +62,19 @@ module _ {p : ℕ} (modulus : Accepted p) where
   }
 
   -- its only row is zero
-  zero-value : (P : Prime p) (some : 0 < p) → value (zp-field p P) 1 1 (matrixOf (by_rows 1 1 1) p some (0 ∷ []) 0) ≡ 0
-  unfolding value_of lastNonzero
+  zero-value : (P : Prime p) (some : 0 < p) → value (zp-field p P) 1 1 (matrix_of (by_rows 1 1 1) p some (0 ∷ []) 0) ≡ 0
+  unfolding value_of last_nonzero
   zero-value P some =
-      value-held p P 1 1 1 (held-matrixOf (by_rows 1 1 1) p some (0 ∷ []) refl zero-taken.residues) (omega arith) 0 (omega arith)
+      value-held p P 1 1 1 (held-matrix_of (by_rows 1 1 1) p some (0 ∷ []) refl zero-taken.residues) (omega arith) 0 (omega arith)
 
   -- so no step applies
   zero-reduced : (P : Prime p) (some : 0 < p) → ReducedBy p P some 1 1 1 (0 ∷ []) (0 ∷ []) (1 ∷ []) (1 ∷ []) 0 0
   unfolding total
   zero-reduced P some = record {
-    t = begin (zp-field p P).ring (matrixOf (by_rows 1 1 1) p some (0 ∷ []));
+    t = begin (zp-field p P).ring (matrix_of (by_rows 1 1 1) p some (0 ∷ []));
     runs = halt (λ i j less inside. absurd (omega arith));
     holding = record {
-      R = held-matrixOf (by_rows 1 1 1) p some (0 ∷ []) refl zero-taken.residues;
+      R = held-matrix_of (by_rows 1 1 1) p some (0 ∷ []) refl zero-taken.residues;
       U = held-identity p P 1 1 (omega arith) unit-diagonal;
       V' = held-identity p P 1 1 (omega arith) unit-diagonal;
     };
@@ -86,7 +86,7 @@ module _ {p : ℕ} (modulus : Accepted p) where
   unfolding total
   zero-listed P some = record {
     count = 0;
-    t = begin (zp-field p P).ring (matrixOf (by_rows 1 1 1) p some (0 ∷ []));
+    t = begin (zp-field p P).ring (matrix_of (by_rows 1 1 1) p some (0 ∷ []));
     runs = halt (λ i j less inside. absurd (omega arith));
     rows_are = ap (λ (v : ℕ). 0 + sign v * 2 ^ 0) (sym (zero-value P some));
   }
@@ -106,12 +106,12 @@ unfolding zero-answers
 w5-holds p modulus = ((zero-answers modulus, (refl, (refl, (refl, (refl, tt))))), (record { by = zero_held }, tt))
   where
     zero_held : (P : Prime p) (some : 0 < p)
-        → Held (by_rows 1 1 1) p (0 ∷ []) (λ _ _. det (series (zp-field p P).ring) 1 (matrixOf (by_rows 1 1 1) p some (0 ∷ [])))
+        → Held (by_rows 1 1 1) p (0 ∷ []) (λ _ _. det (series (zp-field p P).ring) 1 (matrix_of (by_rows 1 1 1) p some (0 ∷ [])))
     zero_held P some =
-        let A = matrixOf (by_rows 1 1 1) p some (0 ∷ []) in
+        let A = matrix_of (by_rows 1 1 1) p some (0 ∷ []) in
         let entry = sym (det-one (series (zp-field p P).ring) A) in
         held-matrix-same (by_rows 1 1 1) p (λ i j li lj. let e : i ≡ 0 = omega arith in let f : j ≡ 0 = omega arith in rw (e, f) entry)
-        (held-matrixOf (by_rows 1 1 1) p some (0 ∷ []) refl (zero-taken modulus).residues)
+        (held-matrix_of (by_rows 1 1 1) p some (0 ∷ []) refl (zero-taken modulus).residues)
 
 -- ## The row (x, x), each entry in w places
 
@@ -191,6 +191,6 @@ w7-holds p d modulus some-degree = record {
   size = refl;
   index_is = λ P some i l.
       let e : i ≡ 0 = omega arith in
-      let row = held-matrixOf (by_rows 1 2 (d + 1)) p some (xs (d + 1)) (omega (arith, xs-length (d + 1))) (xs-residues (d + 1) P.two) in
+      let row = held-matrix_of (by_rows 1 2 (d + 1)) p some (xs (d + 1)) (omega (arith, xs-length (d + 1))) (xs-residues (d + 1) P.two) in
       rw e (sym (ap (index 2) (value-held p P 1 2 (d + 1) row (omega arith) 0 (omega arith) ∙ xs-value (d + 1) (omega arith))));
 }

@@ -3,16 +3,16 @@ use mathlib.Core.Logic.Dec
 use native.Mathlib.Decide.{ℕ_discrete, dec_lt}
 use Rattle.theory_algebra.specs.Cases.{if-equal}
 use Rattle.theory_algebra.specs.Matrix.{setrow, identity}
-use Rattle.theory_algebra.specs.Residue.{inverseBy}
+use Rattle.theory_algebra.specs.Residue.{inverse_by}
 use Rattle.theory_algebra.specs.Series.{◌+ₛ◌, ◌*ₛ◌, mono}
 use Rattle.theory_algebra.specs.Sum.{sum}
 use Rattle.theory_algebra.proofs.Residue.{zp-dec}
 use Rattle.theory_rings.specs.PrimeField.{zp-field}
 use Rattle.theory_rings.specs.Series.{series}
 use Rattle.theory_lists.specs.Change.{imap}
-use Rattle.theory_lists.specs.Last.{lastNonzero}
+use Rattle.theory_lists.specs.Last.{last_nonzero}
 use Rattle.theory_lists.specs.Total.{total}
-use Rattle.matrix_promises.specs.Held.{matrixOf}
+use Rattle.matrix_promises.specs.Held.{matrix_of}
 use Rattle.theory_determinant.specs.Determinant.{det}
 use Rattle.matrix_pivots.specs.Pivot.{value_of}
 use Rattle.theory_reduction.specs.Pivot.{top, value, index, height}
@@ -34,11 +34,11 @@ unfolding ℕ_discrete dec_lt Dec.and least
 decisions = tt
 
 unfoldable pub arithmetic : Unit {0}
-unfolding zp-field zp-dec inverseBy series ◌+ₛ◌ ◌*ₛ◌ mono sum if-equal setrow identity det
+unfolding zp-field zp-dec inverse_by series ◌+ₛ◌ ◌*ₛ◌ mono sum if-equal setrow identity det
 arithmetic = tt
 
 unfoldable pub buffers : Unit {0}
-unfolding imap total lastNonzero matrixOf value_of
+unfolding imap total last_nonzero matrix_of value_of
 buffers = tt
 
 unfoldable pub first_kind : Unit {0}

@@ -12,18 +12,18 @@ use Rattle.matrix_promises.specs.Refused.{Numbers}
 use Rattle.matrix_promises.proofs.Tables.{past-numbers}
 use Rattle.matrix_promises.specs.Reduced.{IsReducedAlone}
 use Rattle.matrix_promises.proofs.Alone.{alone}
-use Rattle.printer_format.specs.Number.{decimalBy, decimal, digitsOf, valueFrom, is_number, number}
-use Rattle.printer_format.specs.Line.{row, lines, starts_with, numbers, readLine, readLines}
-use Rattle.printer_format.specs.File.{headLines, bodyLines}
-use Rattle.printer_format.specs.Answer.{answerText}
-use Rattle.printer_files.specs.Table.{cellsTable}
+use Rattle.printer_format.specs.Number.{decimal_by, decimal, digits_of, value_from, is_number, number}
+use Rattle.printer_format.specs.Line.{row, lines, starts_with, numbers, read_line, read_lines}
+use Rattle.printer_format.specs.File.{head_lines, body_lines}
+use Rattle.printer_format.specs.Answer.{answer_text}
+use Rattle.printer_files.specs.Table.{cells_table}
 use Rattle.printer_writing.specs.Wrote.{written}
 use Rattle.printer_writing.proofs.Writing.{wrote_as}
 use Rattle.printer_library.specs.Printed.{Printed}
 use Rattle.printer_library.proofs.Unique.{printed-unique}
 use Rattle.examples.specs.Answers.{Answers}
 use Rattle.examples.specs.WExamples.{a1}
-use Rattle.examples.specs.Printer.{textIn, textOut, Prints}
+use Rattle.examples.specs.Printer.{text_in, text_out, Prints}
 use Rattle.examples.proofs.Opened.{decisions}
 use Rattle.examples.proofs.Decisions.{in-range, coefficients}
 use Rattle.examples.proofs.WExamples.{w-examples-given}
@@ -44,16 +44,16 @@ reduced1 : IsReducedAlone 7 2 2 3 a1 answers1.weak.r answers1.weak.rank answers1
 reduced1 = alone ((answers1.reduced (replicate 12 0) (replicate 24 0) (replicate 12 0) refl).done refl).0
 
 -- they are written so: "`rank=` is the rank; `steps=` is the count; the `r` lines are R"
-written1 : textOut ≡ answerText answers1.weak.rank answers1.weak.count 2 2 2 answers1.weak.r (1 ∷ 0 ∷ 0 ∷ 0 ∷ 0 ∷ [])
-unfolding answers1 lines row decimal decimalBy
+written1 : text_out ≡ answer_text answers1.weak.rank answers1.weak.count 2 2 2 answers1.weak.r (1 ∷ 0 ∷ 0 ∷ 0 ∷ 0 ∷ [])
+unfolding answers1 lines row decimal decimal_by
 written1 =
     let (rank, (steps, (result, _))) = w-examples-given.0.0.1 in
-    λ i. answerText (get_or (sym rank i) 0 0) (get_or (sym steps i) 0 0) 2 2 2 (sym result i) (1 ∷ 0 ∷ 0 ∷ 0 ∷ 0 ∷ [])
+    λ i. answer_text (get_or (sym rank i) 0 0) (get_or (sym steps i) 0 0) 2 2 2 (sym result i) (1 ∷ 0 ∷ 0 ∷ 0 ∷ 0 ∷ [])
 
 -- the text that is printed is an answer to the text that is read
-answered : Printed textIn textOut
-unfolding readLines readLine numbers starts_with number is_number valueFrom digitsOf
-answered = let cells = cellsTable 7 (bodyLines (headLines textIn)) in record {
+answered : Printed text_in text_out
+unfolding read_lines read_line numbers starts_with number is_number value_from digits_of
+answered = let cells = cells_table 7 (body_lines (head_lines text_in)) in record {
   number = 0;
   place = 0;
   told = inr (leb-true _ _ refl, inr (tt, past-numbers cells numbers1 (inr (tt, inr (residues1, (refl, refl))))));
@@ -70,8 +70,8 @@ answered = let cells = cellsTable 7 (bodyLines (headLines textIn)) in record {
 }
 
 -- so it is the one
-pub paper-printed : Prints textIn textOut
+pub paper-printed : Prints text_in text_out
 unfolding written
 paper-printed out size out' room output =
-    let wrote = wrote_as (printed-unique textIn _ _ output.is answered) output.wrote in
-    (wrote.next, wrote.now ∙ sets-eq textOut out 0 (rw room (leb-true _ _ refl)))
+    let wrote = wrote_as (printed-unique text_in _ _ output.is answered) output.wrote in
+    (wrote.next, wrote.now ∙ sets-eq text_out out 0 (rw room (leb-true _ _ refl)))

@@ -7,8 +7,8 @@ use Prim.Native.Nat.{ℕ, ◌≤◌}
 use native.Mathlib.Omega.{arith}
 use Rattle.theory_algebra.specs.Modulus.{Accepted}
 use Rattle.matrix_promises.specs.Answering.{Rule, Told}
-use Rattle.matrix_promises.specs.Refused.{InShape, InDegree, reductionSizes, stepSizes, determinantSizes}
-use Rattle.matrix_promises.specs.Refused.{numberRules, squareRule, lengthRule, coefficientRule}
+use Rattle.matrix_promises.specs.Refused.{InShape, InDegree, reduction_sizes, step_sizes, determinant_sizes}
+use Rattle.matrix_promises.specs.Refused.{number_rules, square_rule, length_rule, coefficient_rule}
 use Rattle.examples.specs.Example.{Kind, Reduction, SingleStep, Determinant, table_of, Returns, DoesNotReturn, Sized}
 use Rattle.examples.specs.WExamples.{w9, w10, w11, w12}
 use Rattle.examples.proofs.Opened.{decisions}
@@ -28,9 +28,9 @@ never-told k (rule ∷ rules) (either, rest) number place (inr x) e = never-told
 
 -- the rows of a service after those of the numbers
 abbrev further : Kind → (p n m d : ℕ) (given a : List ℕ) → List Rule
-further Reduction p n m d given a = lengthRule given (reductionSizes n m d) ∷ coefficientRule p a ∷ []
-further SingleStep p n m d given a = lengthRule given (stepSizes n m d) ∷ coefficientRule p a ∷ []
-further Determinant p n m d given a = squareRule n m ∷ lengthRule given (determinantSizes n m d) ∷ coefficientRule p a ∷ []
+further Reduction p n m d given a = length_rule given (reduction_sizes n m d) ∷ coefficient_rule p a ∷ []
+further SingleStep p n m d given a = length_rule given (step_sizes n m d) ∷ coefficient_rule p a ∷ []
+further Determinant p n m d given a = square_rule n m ∷ length_rule given (determinant_sizes n m d) ∷ coefficient_rule p a ∷ []
 
 -- their numbers are above 3
 later : (service : Kind) (p n m d : ℕ) (given a : List ℕ) (k : ℕ) → 1 ≤ k → k ≤ 3 → Never k (further service p n m d given a)
@@ -41,13 +41,13 @@ later Determinant p n m d given a k some few =
 
 module _ (service : Kind) (p n m d : ℕ) (given a : List ℕ) where
   abbrev rows : List Rule
-  rows = numberRules p n m d (further service p n m d given a)
+  rows = number_rules p n m d (further service p n m d given a)
 
   -- its table has them all
   whole : table_of service p n m d given a ≡ rows
   whole = go service
     where
-      go : (s : Kind) → table_of s p n m d given a ≡ numberRules p n m d (further s p n m d given a)
+      go : (s : Kind) → table_of s p n m d given a ≡ number_rules p n m d (further s p n m d given a)
       go Reduction = refl
       go SingleStep = refl
       go Determinant = refl
@@ -61,7 +61,7 @@ module _ (service : Kind) (p n m d : ℕ) (given a : List ℕ) where
 
   -- where the buffers have their lengths, the coefficients decide
   coefficients-say : Accepted p → InShape n m → InDegree d → Sized service n m d given → (number place : ℕ)
-      → Told (coefficientRule p a ∷ []) number place → Returns service p n m d given a number place
+      → Told (coefficient_rule p a ∷ []) number place → Returns service p n m d given a number place
   coefficients-say modulus shape degree sized number place told = returns number place
       (inr (modulus, inr (shape, inr (degree, go service sized))))
     where

@@ -1,7 +1,7 @@
 -- Examples, and what it means that the definitions give their values.
 use Rattle.std.specs.Prelude.{◌≡◌, ◌≢◌, List, [], ◌∷◌, ℕ}
 use Rattle.matrix_promises.specs.Answering.{Rule, Told}
-use Rattle.matrix_promises.specs.Refused.{reductionSizes, stepSizes, determinantSizes, matrixTable, determinantTable}
+use Rattle.matrix_promises.specs.Refused.{reduction_sizes, step_sizes, determinant_sizes, matrix_table, determinant_table}
 use Rattle.matrix_promises.specs.Determinant.{IsDeterminant}
 use Rattle.examples.specs.Answers.{Answers}
 
@@ -53,9 +53,9 @@ pub data Kind : Type 0 where
 -- A call of a service: p, n, m, d and the input a are handed in, and buffers of the lengths `given`, the input's among them. This is
 -- the refusal table by which it is answered.
 abbrev pub table_of : Kind → (p n m d : ℕ) (given a : List ℕ) → List Rule
-table_of Reduction p n m d given a = matrixTable p n m d given (reductionSizes n m d) a
-table_of SingleStep p n m d given a = matrixTable p n m d given (stepSizes n m d) a
-table_of Determinant p n m d given a = determinantTable p n m d given a
+table_of Reduction p n m d given a = matrix_table p n m d given (reduction_sizes n m d) a
+table_of SingleStep p n m d given a = matrix_table p n m d given (step_sizes n m d) a
+table_of Determinant p n m d given a = determinant_table p n m d given a
 
 -- it returns this number and this place
 abbrev pub Returns : Kind → (p n m d : ℕ) (given a : List ℕ) (number place : ℕ) → Type 0
@@ -67,6 +67,6 @@ DoesNotReturn service p n m d given a number = (other place : ℕ) → Returns s
 
 -- its buffers have the lengths that they should have; a matrix whose determinant is wanted is square
 abbrev pub Sized : Kind → (n m d : ℕ) (given : List ℕ) → Type 0
-Sized Reduction n m d given = given ≡ reductionSizes n m d
-Sized SingleStep n m d given = given ≡ stepSizes n m d
-Sized Determinant n m d given = (n ≡ m) × (given ≡ determinantSizes n m d)
+Sized Reduction n m d given = given ≡ reduction_sizes n m d
+Sized SingleStep n m d given = given ≡ step_sizes n m d
+Sized Determinant n m d given = (n ≡ m) × (given ≡ determinant_sizes n m d)

@@ -106,8 +106,8 @@ w12 = (service : Kind) (n m d : ℕ) (given a : List ℕ) → InShape n m → In
     × (((i : ℕ) → i < length a → get_or a i 0 ≤ 6) → Returns service 7 n m d given a 0 0)
 
 -- the statements, one for each example; where the paper leaves p open it is made of every p that is taken
-abbrev pub wExamples : List (Type 0)
-wExamples =
+abbrev pub w_examples : List (Type 0)
+w_examples =
     Every Gives w1 ∷
     Every Gives w2 ∷
     Every Gives w3 ∷

@@ -8,12 +8,12 @@ use lib.ListN.{length}
 use Rattle.theory_algebra.specs.Prime.{Prime}
 use Rattle.poly.specs.residues.Modulus.{Ready}
 use Rattle.matrix_promises.specs.Answering.{Told}
-use Rattle.matrix_promises.specs.Refused.{reductionSizes, stepSizes, determinantSizes}
+use Rattle.matrix_promises.specs.Refused.{reduction_sizes, step_sizes, determinant_sizes}
 use Rattle.matrix_promises.specs.Reduced.{IsReduction}
 use Rattle.matrix_promises.specs.RowList.{mask_of}
 use Rattle.matrix_promises.specs.SteppedOnce.{SteppedOnce}
 use Rattle.matrix_promises.specs.Determinant.{IsDeterminant}
-use Rattle.matrix_promises.specs.Services.{WholeCall, ShortCall, lengths, shortLengths, reduction, singleStep, determinant}
+use Rattle.matrix_promises.specs.Services.{WholeCall, ShortCall, lengths, short_lengths, reduction, single_step, determinant}
 use Rattle.matrix_promises.proofs.Tables.{InOrder, in_order, determinant-in-order, sized}
 use Rattle.matrix_buffers.specs.Bounds.{Checked}
 use Rattle.matrix_buffers.specs.Diagonal.{Diagonal}
@@ -67,7 +67,7 @@ pub record Passed (c : WholeCall) : Type 0 where
   pub told : Told (reduction.table c) 0 0
 
 module _ {c : WholeCall} (passed : Passed c) where
-  pub order : InOrder c.p c.n c.m c.d (lengths c) (reductionSizes c.n c.m c.d) c.a
+  pub order : InOrder c.p c.n c.m c.d (lengths c) (reduction_sizes c.n c.m c.d) c.a
   order = in_order refl passed.told
 
   sizes : Sizes c.n c.m (c.d + 1) c.r c.u c.v
@@ -97,10 +97,10 @@ module _ {c : WholeCall} (passed : Passed c) where
 -- ## The single step
 
 pub record StepPassed (c : ShortCall) : Type 0 where
-  pub told : Told (singleStep.table c) 0 0
+  pub told : Told (single_step.table c) 0 0
 
 module _ {c : ShortCall} (passed : StepPassed c) where
-  pub step-order : InOrder c.p c.n c.m c.d (shortLengths c) (stepSizes c.n c.m c.d) c.a
+  pub step-order : InOrder c.p c.n c.m c.d (short_lengths c) (step_sizes c.n c.m c.d) c.a
   step-order = in_order refl passed.told
 
   -- the result has room for the input
@@ -118,7 +118,7 @@ pub record DeterminantPassed (c : ShortCall) : Type 0 where
   pub told : Told (determinant.table c) 0 0
 
 module _ {c : ShortCall} (passed : DeterminantPassed c) where
-  pub determinant-order : InOrder c.p c.n c.m c.d (shortLengths c) (determinantSizes c.n c.m c.d) c.a
+  pub determinant-order : InOrder c.p c.n c.m c.d (short_lengths c) (determinant_sizes c.n c.m c.d) c.a
   determinant-order = (determinant-in-order refl passed.told).1
 
   pub determinant-asked : {q reciprocal : ℕ} → q ≡ c.p → Ready q reciprocal → DeterminantAsked q reciprocal c.n c.d c.a c.r

@@ -7,10 +7,10 @@ use Rattle.matrix.specs.declared.determinant.DeterminantAnswer.{DeterminantAnswe
 use Rattle.matrix.specs.declared.determinant.DeterminantAnswer.TheVariants.{NotDone, Done}
 
 -- the numbers of an answer: its number and its place
-abbrev pub determinantNumbersOf : DeterminantAnswer → ℕ × ℕ
-determinantNumbersOf (NotDone x) = (number_of x, place_of x)
-determinantNumbersOf Done = (0, 0)
+abbrev pub determinant_numbers_of : DeterminantAnswer → ℕ × ℕ
+determinant_numbers_of (NotDone x) = (number_of x, place_of x)
+determinant_numbers_of Done = (0, 0)
 
 -- the promise of the determinant, of an answer, where the result holds r at exit
 abbrev pub DeterminantAnswered : (call : ShortCall) (r : List ℕ) → DeterminantAnswer → Type 0
-DeterminantAnswered call r x = let s = determinantNumbersOf x in Promise determinant call s.0 s.1 r
+DeterminantAnswered call r x = let s = determinant_numbers_of x in Promise determinant call s.0 s.1 r

@@ -5,9 +5,9 @@ use Prim.Native.Nat.{ℕ, ◌+◌}
 use lib.ListN.{length}
 use Rattle.poly.specs.residues.Modulus.{Ready}
 use Rattle.matrix_promises.specs.Answering.{Told}
-use Rattle.matrix_promises.specs.Refused.{stepSizes}
+use Rattle.matrix_promises.specs.Refused.{step_sizes}
 use Rattle.matrix_promises.specs.Reduced.{IsReducedAlone}
-use Rattle.matrix_promises.specs.Services.{ShortCall, shortLengths}
+use Rattle.matrix_promises.specs.Services.{ShortCall, short_lengths}
 use Rattle.matrix_promises.proofs.Tables.{InOrder, in_order, sized}
 use Rattle.matrix_buffers.specs.Bounds.{Checked}
 use Rattle.matrix_refusals.proofs.Answering.{answer-done}
@@ -19,7 +19,7 @@ pub record Passed (c : ShortCall) : Type 0 where
   pub told : Told (alone.table c) 0 0
 
 module _ {c : ShortCall} (passed : Passed c) where
-  pub order : InOrder c.p c.n c.m c.d (shortLengths c) (stepSizes c.n c.m c.d) c.a
+  pub order : InOrder c.p c.n c.m c.d (short_lengths c) (step_sizes c.n c.m c.d) c.a
   order = in_order refl passed.told
 
   -- the result has room for the input

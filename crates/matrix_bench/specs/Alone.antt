@@ -1,8 +1,8 @@
 -- What is promised of the reduction of R alone: that of a service whose calls are refused as those of the single step.
 use Rattle.std.specs.Prelude.{List, ℕ, ◌+◌}
-use Rattle.matrix_promises.specs.Refused.{stepSizes, matrixTable}
+use Rattle.matrix_promises.specs.Refused.{step_sizes, matrix_table}
 use Rattle.matrix_promises.specs.Service.{Service, Promise}
-use Rattle.matrix_promises.specs.Services.{ShortCall, shortLengths}
+use Rattle.matrix_promises.specs.Services.{ShortCall, short_lengths}
 use Rattle.matrix_promises.specs.Reduced.{IsReducedAlone}
 use Rattle.matrix_bench.specs.declared.AloneReply.{AloneReply}
 
@@ -17,7 +17,7 @@ abbrev pub alone : Service
 alone = record {
   Call = ShortCall;
   Outcome = AloneOutcome;
-  table = λ c. matrixTable c.p c.n c.m c.d (shortLengths c) (stepSizes c.n c.m c.d) c.a;
+  table = λ c. matrix_table c.p c.n c.m c.d (short_lengths c) (step_sizes c.n c.m c.d) c.a;
   kept = λ c. record { rank = 0; count = 0; r = c.r };
   Done = λ c x. IsReducedAlone c.p c.n c.m (c.d + 1) c.a x.r x.rank x.count;
 }

@@ -19,7 +19,7 @@ use Rattle.theory_rings.specs.Series.{series}
 use Rattle.theory_rings.proofs.Series.{add_at, neg-mono, mono-mul-low, mono-mul-high}
 use Rattle.theory_lattice.specs.Row.{Row}
 use Rattle.theory_lattice.specs.PolynomialMatrix.{AllBounded}
-use Rattle.theory_lists.specs.Where.{whereTrue}
+use Rattle.theory_lists.specs.Where.{where_true}
 use Rattle.theory_lists.specs.Place.{Layout}
 use Rattle.matrix_promises.specs.Held.{Held}
 use Rattle.matrix_buffers.specs.Added.{raised, CellsAdded, RowAdded, ColumnAdded}
@@ -50,7 +50,7 @@ module _ (p : ℕ) (P : Prime p) where
       → Held L p b' (addrow (series R) M l k (mono R c e))
   held-added L {M = M} c e l k ll lk h d fits = held-written p L l _ ll h d
       (λ j t lj lt.
-      ap₂ (λ (x y : ℕ). (x + c.val * whereTrue (leb e t) y) % p) (h.at l j t ll lj lt) (h.at k j (t - e) lk lj (omega arith))
+      ap₂ (λ (x y : ℕ). (x + c.val * where_true (leb e t) y) % p) (h.at l j t ll lj lt) (h.at k j (t - e) lk lj (omega arith))
       ∙ sym (sum_number c e (M l j) (M k j) t))
       (λ j t lj past. ap (λ (x : Zp p). x.val) ((rw (setrow-same M l _) at (fits l ll)) j lj t past) ∙ field-zero p P)
 

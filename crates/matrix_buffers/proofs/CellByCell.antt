@@ -7,9 +7,9 @@ use native.Mathlib.Omega.{arith}
 use lib.ListN.{length, get_or, take, drop}
 use Rattle.theory_algebra.proofs.Cases.{case-le}
 use Rattle.theory_lists.specs.Change.{imap}
-use Rattle.theory_lists.specs.Part.{part, onPart}
-use Rattle.theory_lists.proofs.Change.{length-imap, getD-imap, get_d_past}
-use Rattle.theory_lists.proofs.Part.{length_part, get_d_part, length-onPart, onPart-low, onPart-in, onPart-high}
+use Rattle.theory_lists.specs.Part.{part, on_part}
+use Rattle.theory_lists.proofs.Change.{length-imap, get_or-imap, get_d_past}
+use Rattle.theory_lists.proofs.Part.{length_part, get_d_part, length-on_part, on_part-low, on_part-in, on_part-high}
 use Rattle.matrix_buffers.specs.Written.{CellsWritten}
 
 pub none_written : {w : ℕ} {at new : ℕ → ℕ → ℕ} {b : List ℕ} → CellsWritten w 0 at new b b
@@ -23,21 +23,21 @@ written_as same d = record { size = d.size; written = λ i t li lt. d.written i 
 -- n places from a on are lent, and cells in them are written: what is there when they come back
 pub part-written : {w count : ℕ} {at new : ℕ → ℕ → ℕ} (a n : ℕ) (b l : List ℕ) → a + n ≤ length b → ((i t : ℕ) → i < count → t < w → at i t < n)
     → CellsWritten w count at new (part a n b) l → CellsWritten w count (λ i t. a + at i t) new b (take a b ++ (l ++ drop n (drop a b)))
-unfolding onPart
+unfolding on_part
 part-written {at = at} a n b l fits inside d =
     let back : List ℕ → List ℕ = λ _. l in
     let keeps : length l ≡ n = d.size ∙ length_part a n b fits in
     record {
-      size = length-onPart a n b fits back keeps;
-      written = λ i t li lt. onPart-in a n b fits back keeps (at i t) (inside i t li lt) ∙ d.written i t li lt;
+      size = length-on_part a n b fits back keeps;
+      written = λ i t li lt. on_part-in a n b fits back keeps (at i t) (inside i t li lt) ∙ d.written i t li lt;
       others = λ x elsewhere. case-le a x
           (λ after. case-le (a + n) x
-          (λ past. onPart-high a n b fits back keeps x past)
+          (λ past. on_part-high a n b fits back keeps x past)
           (λ before. let here : x ≡ a + (x - a) = omega arith in
-          rw here (onPart-in a n b fits back keeps (x - a) (omega arith)
+          rw here (on_part-in a n b fits back keeps (x - a) (omega arith)
           ∙ d.others (x - a) (λ i t li lt same. elsewhere i t li lt (here ∙ ap (λ (y : ℕ). a + y) same))
           ∙ get_d_part a n b fits (x - a) (omega arith))))
-          (λ before. onPart-low a n b fits back keeps x before);
+          (λ before. on_part-low a n b fits back keeps x before);
     }
 
 -- the same where one cell is lent and changed by a rule
@@ -47,7 +47,7 @@ cell-changed f a w b fits =
     let size : length (part a w b) ≡ w = length_part a w b fits in
     part-written a w b (imap f (part a w b)) fits (λ _ _ _ lt. lt) (record {
       size = length-imap f (part a w b);
-      written = λ _ t _ lt. getD-imap f (part a w b) t (omega arith) ∙ ap (f t) (get_d_part a w b fits t lt);
+      written = λ _ t _ lt. get_or-imap f (part a w b) t (omega arith) ∙ ap (f t) (get_d_part a w b fits t lt);
       others = λ x elsewhere. case-le w x
           (λ past. get_d_past (imap f (part a w b)) x (omega (arith, length-imap f (part a w b))) ∙ sym (get_d_past (part a w b) x (omega arith)))
           (λ inside. absurd (elsewhere 0 x (omega arith) inside refl));

@@ -1,12 +1,12 @@
 -- Multiples of cells that are added to other cells, place by place.
 use Rattle.std.specs.Prelude.{List, ℕ, ◌+◌, ◌*◌, ◌-◌, ◌%◌, get_or, leb}
 use Rattle.theory_lists.specs.Place.{spot}
-use Rattle.theory_lists.specs.Where.{whereTrue}
+use Rattle.theory_lists.specs.Where.{where_true}
 use Rattle.matrix_buffers.specs.Written.{CellsWritten}
 
 -- the coefficient at degree t of x^e times f
 abbrev pub raised : ℕ → (ℕ → ℕ) → ℕ → ℕ
-raised e f t = whereTrue (leb e t) (f (t - e))
+raised e f t = where_true (leb e t) (f (t - e))
 
 -- b became b': to each of `count` cells of b, c·x^e times a cell of s was added, modulo p, and no other place was written.
 -- Cell i has its coefficient of degree t at `to i t`, and what is added to it stands at `from i t`.

@@ -28,7 +28,7 @@ use Rattle.theory_reduction.specs.Pair.{StepRows}
 use Rattle.theory_reduction.specs.Step.{factor, subtract, reduce-row}
 use Rattle.theory_reduction.proofs.Pair.{pair-rows, pair_same}
 use Rattle.matrix_pivots.specs.NextPair.{NextAsked, IsNextOf}
-use Rattle.matrix_pivots.specs.Pivot.{values_of, zeroRow, degreeAt, Pivots, AllPivots, MatrixAsked, SumAsked}
+use Rattle.matrix_pivots.specs.Pivot.{values_of, zero_row, degree_at, Pivots, AllPivots, MatrixAsked, SumAsked}
 use Rattle.matrix_pivots.specs.declared.pivot.Pivot.{Pivot}
 use Rattle.matrix_pivots.specs.declared.next_pair.Next.TheVariants.{Nothing, Rows}
 use Rattle.matrix_pivots.proofs.NextPair as Next
@@ -44,11 +44,11 @@ use Rattle.matrix_determinant.specs.FirstColumns.{RowsHeld, ReduceAsked, Columns
 
 -- the pivot degrees of the rows, that of a zero row counting as 0, together
 abbrev pub sum : (m : ℕ) (pivots : List Pivot) → ℕ
-sum m pivots = total (suc m) (λ i. degreeAt pivots i - 1)
+sum m pivots = total (suc m) (λ i. degree_at pivots i - 1)
 
 -- the cell of row k in the parted column reaches as far as the row and what the degrees of all rows have lost of the budget
 abbrev reach : (m budget k : ℕ) (pivots : List Pivot) → ℕ
-reach m budget k pivots = degreeAt pivots k + (budget - sum m pivots)
+reach m budget k pivots = degree_at pivots k + (budget - sum m pivots)
 
 -- whatever stage the buffers are of, with the pivots of the rows
 module _ {p : ℕ} (P : Prime p) {m w wide budget : ℕ} {whole f : ℕ → Zp p} {r column : List ℕ} (columns : 0 < m)
@@ -64,7 +64,7 @@ module _ {p : ℕ} (P : Prime p) {m w wide budget : ℕ} {whole f : ℕ → Zp p
   agree i li = sym (value-held p P (suc m) m w held.matrix columns i li)
 
   module _ {pivots : List Pivot} (found : Pivots (suc m) m (values_of m w r) pivots) where
-    height-now : (i : ℕ) → i < suc m → degreeAt pivots i ≡ height m (value K m w (T i))
+    height-now : (i : ℕ) → i < suc m → degree_at pivots i ≡ height m (value K m w (T i))
     height-now = height-is p P (suc m) m w columns held.matrix found
 
     pub sum-now : sum m pivots ≡ degrees K w m T
@@ -94,7 +94,7 @@ module _ {p : ℕ} (P : Prime p) {m w wide budget : ℕ} {whole f : ℕ → Zp p
             ∙ field-zero p P;
       }
 
-      cell_room : degreeAt pivots l - degreeAt pivots k + reach m budget k pivots ≤ wide
+      cell_room : degree_at pivots l - degree_at pivots k + reach m budget k pivots ≤ wide
       cell_room = omega (
         arith,
         stage-room K w (wide - 1) whole held.stage l k reducing,
@@ -104,7 +104,7 @@ module _ {p : ℕ} (P : Prime p) {m w wide budget : ℕ} {whole f : ℕ → Zp p
       )
 
       -- after the step
-      module _ {r' column' : List ℕ} {x : Lowered} (lowered : IsLowered p m w l k (get_or pivots l zeroRow) (get_or pivots k zeroRow) r r' x)
+      module _ {r' column' : List ℕ} {x : Lowered} (lowered : IsLowered p m w l k (get_or pivots l zero_row) (get_or pivots k zero_row) r r' x)
           (added : RowAdded p 1 wide x.multiple.negated.0 x.multiple.exponent l k column column') where
         next-stage : Stage K w (wide - 1) whole budget m (reduce-row K m w l k T) f
         next-stage = stage-step K w (wide - 1) whole held.stage l k reducing
@@ -174,15 +174,15 @@ module _ {p reciprocal m w wide budget : ℕ} {r₀ column₀ r column : List �
     pub rows_fit : (l < 8) × (k < 8)
     rows_fit = (omega (arith, listed.l-fits, asked.sizes.columns-most), omega (arith, listed.k-fits, asked.sizes.columns-most))
 
-    pub reach-fits : degreeAt pivots k + (budget - sum m pivots) ≤ 512
+    pub reach-fits : degree_at pivots k + (budget - sum m pivots) ≤ 512
     reach-fits = omega (arith, cell_room asked.prime asked.columns asked.held pivots-are next places, asked.sizes.wide-most)
 
-    pub lower-asked : LowerAsked p reciprocal m w l k (get_or pivots l zeroRow) (get_or pivots k zeroRow) r
+    pub lower-asked : LowerAsked p reciprocal m w l k (get_or pivots l zero_row) (get_or pivots k zero_row) r
     lower-asked = Rows-of.lower-asked (suc m) m w asked.columns r asked.held.matrix.size pivots-are asked.ready asked.prime
         (held-coefficients (by_rows (suc m) m w) p asked.held.matrix) listed
 
-    pub column-asked : {e c f : ℕ} → Factor p m w l k (get_or pivots l zeroRow) (get_or pivots k zeroRow) r e c f
-        → RowsInBuffer p reciprocal f e 1 wide (degreeAt pivots k + (budget - sum m pivots)) l k column
+    pub column-asked : {e c f : ℕ} → Factor p m w l k (get_or pivots l zero_row) (get_or pivots k zero_row) r e c f
+        → RowsInBuffer p reciprocal f e 1 wide (degree_at pivots k + (budget - sum m pivots)) l k column
     column-asked g = record {
       multiplier = record {
         ready = asked.ready;
@@ -197,7 +197,7 @@ module _ {p reciprocal m w wide budget : ℕ} {r₀ column₀ r column : List �
     }
 
     -- after the step
-    module _ {r' : List ℕ} {x : Lowered} (lowered : IsLowered p m w l k (get_or pivots l zeroRow) (get_or pivots k zeroRow) r r' x) where
+    module _ {r' : List ℕ} {x : Lowered} (lowered : IsLowered p m w l k (get_or pivots l zero_row) (get_or pivots k zero_row) r r' x) where
       pub falls : total (suc m) (values_of m w r') < total (suc m) (values_of m w r)
       falls = step_falls p asked.prime (suc m) m w asked.columns asked.held.matrix pivots-are l k
           (reducing asked.prime asked.columns asked.held pivots-are next places) lowered

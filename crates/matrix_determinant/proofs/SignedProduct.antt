@@ -17,28 +17,28 @@ use Rattle.theory_rings.proofs.PrimeField.{field-neg, field-zero, field-one}
 use Rattle.theory_algebra.proofs.Ring.{one-mul, neg-mul}
 use Rattle.theory_rings.specs.Series.{series}
 use Rattle.theory_rings.proofs.Series.{neg-at, const-mul-at}
-use Rattle.theory_lists.proofs.Change.{length-imap, getD-imap, get_d_past}
+use Rattle.theory_lists.proofs.Change.{length-imap, get_or-imap, get_d_past}
 use Rattle.theory_lists.proofs.Total.{total-same}
 use Rattle.poly.specs.residues.Modulus.{Ready}
-use Rattle.poly.specs.Polynomial.{usedPlaces}
-use Rattle.poly.specs.arithmetic.Operations.{productAt, productOf, ProductAsked, scaledBy}
+use Rattle.poly.specs.Polynomial.{used_places}
+use Rattle.poly.specs.arithmetic.Operations.{product_at, product_of, ProductAsked, scaled_by}
 use Rattle.poly.specs.Holds.{Holds}
 use Rattle.poly.proofs.Ending.{ends-height}
 use Rattle.poly.proofs.arithmetic.Holds.{holds-product, holds-scaled, product-number}
 use Rattle.matrix_determinant.specs.SignedProduct.{signed_product, signed, MultiplyAsked}
 
 -- the places in use are all of the polynomial
-used-at : (l : List ℕ) (n : ℕ) → n ≡ usedPlaces l → (i : ℕ) → get_or (take n l) i 0 ≡ get_or l i 0
+used-at : (l : List ℕ) (n : ℕ) → n ≡ used_places l → (i : ℕ) → get_or (take n l) i 0 ≡ get_or l i 0
 used-at l n used i = case-le n i
     (λ past. get_d_past (take n l) i (omega (arith, length-take-le n l (omega (arith, (ends-height l).within))))
     ∙ sym ((ends-height l).zeros i (omega arith)))
     (λ before. get_or-take n l i 0 before)
 
 -- what the places of a and of b that are in use have as their product
-module _ {x y p reciprocal : ℕ} {a b : List ℕ} (x-used : x ≡ usedPlaces a) (y-used : y ≡ usedPlaces b)
+module _ {x y p reciprocal : ℕ} {a b : List ℕ} (x-used : x ≡ used_places a) (y-used : y ≡ used_places b)
     (asked : MultiplyAsked p reciprocal a b) (room : List ℕ) (room-size : length room ≡ 512) where
-  used-product : (k : ℕ) → productAt (take x a) (take y b) k ≡ productAt a b k
-  unfolding productAt
+  used-product : (k : ℕ) → product_at (take x a) (take y b) k ≡ product_at a b k
+  unfolding product_at
   used-product k = total-same (suc k) _ _ (λ i _. ap₂ ◌*◌ (used-at a x x-used i) (used-at b y y-used (k - i)))
 
   front : length (take (length a) room) ≡ length a
@@ -52,20 +52,20 @@ module _ {x y p reciprocal : ℕ} {a b : List ℕ} (x-used : x ≡ usedPlaces a)
   }
 
   -- it is made in front of the room
-  module _ {new : List ℕ} (rest : List ℕ) (New-is : new ≡ productOf p (take x a) (take y b) (take (length a) room)) where
+  module _ {new : List ℕ} (rest : List ℕ) (New-is : new ≡ product_of p (take x a) (take y b) (take (length a) room)) where
     new-size : length new ≡ length a
-    unfolding productOf
+    unfolding product_of
     new-size = ap length New-is ∙ length-imap _ (take (length a) room) ∙ front
 
     pub made-room : length a ≤ length (new ++ rest)
     made-room = rw length-append (omega (arith, new-size))
 
-    pub made-whole : take (length a) (new ++ rest) ≡ productOf p a b a
-    unfolding productOf
+    pub made-whole : take (length a) (new ++ rest) ≡ product_of p a b a
+    unfolding product_of
     made-whole =
         take_at new rest (length a) new-size ∙ New-is ∙ ext_get_or 0 _ _ (sym (ap length New-is) ∙ new-size ∙ sym (length-imap _ a)) (λ k lk.
         let inside : k < length a = omega (arith, ap length New-is, new-size) in
-        getD-imap _ (take (length a) room) k (omega (arith, front)) ∙ ap (λ (z : ℕ). z % p) (used-product k) ∙ sym (getD-imap _ a k inside))
+        get_or-imap _ (take (length a) room) k (omega (arith, front)) ∙ ap (λ (z : ℕ). z % p) (used-product k) ∙ sym (get_or-imap _ a k inside))
 
 module _ (p : ℕ) (P : Prime p) {a b : List ℕ} {f g : ℕ → Zp p} (a-holds : Holds p a f) (b-holds : Holds p b g) where
   abbrev K : Field (Zp p)
@@ -89,9 +89,9 @@ module _ (p : ℕ) (P : Prime p) {a b : List ℕ} {f g : ℕ → Zp p} (a-holds 
   module _ {reciprocal : ℕ} (pre : ProductAsked p reciprocal a b a) where
     -- c times the product, where c is the residue u
     scaled : (c : Zp p) (h : ℕ → Zp p) (u : ℕ) → c.val ≡ u → ((k : ℕ) → K.ring.mul c (product k) ≡ h k)
-        → Holds p (scaledBy p u (productOf p a b a)) h
+        → Holds p (scaled_by p u (product_of p a b a)) h
     scaled c h u is same = rw (← is, ← fun_ext (λ k. const-mul-at K.ring c product k ∙ same k))
-        (holds-scaled p P c (productOf p a b a) product (holds-product p P reciprocal a b a f g a-holds b-holds pre))
+        (holds-scaled p P c (product_of p a b a) product (holds-product p P reciprocal a b a f g a-holds b-holds pre))
 
     minus_one : (K.ring.neg K.ring.𝟙).val ≡ p - 1
     minus_one = field-neg p P K.ring.𝟙 ∙ rw (field-one p P) (mod-eq_of_lt (omega (arith, P.two)))

@@ -10,8 +10,8 @@ use Rattle.theory_rings.specs.PrimeField.{zp-field}
 use Rattle.theory_rings.specs.Series.{series}
 use Rattle.theory_determinant.specs.Determinant.{det}
 use Rattle.theory_lists.proofs.Grid.{one_line}
-use Rattle.matrix_promises.specs.Held.{matrixOf}
-use Rattle.matrix_promises.proofs.Held.{held-matrixOf}
+use Rattle.matrix_promises.specs.Held.{matrix_of}
+use Rattle.matrix_promises.proofs.Held.{held-matrix_of}
 use Rattle.matrix_promises.specs.Layout.{by_rows}
 use Rattle.matrix_determinant.specs.FirstStage.{LayAsked, Laid}
 use Rattle.matrix_determinant.specs.Determinant.{DeterminantAsked}
@@ -59,11 +59,11 @@ module _ {p reciprocal n d : ℕ} {a r : List ℕ} (asked : DeterminantAsked p r
   module _ {columns column r' : List ℕ} (laid : Laid n (d + 1) (n * d + 1) a columns column r') where
     begins : (P : Prime p) (some : 0 < p)
         → FrontHeld p P (n - 1) (d + 1) (n * d + 1) (n * (d + 1 - 1))
-        (det (series (zp-field p P).ring) n (matrixOf (by_rows n n (d + 1)) p some a)) columns column r'
+        (det (series (zp-field p P).ring) n (matrix_of (by_rows n n (d + 1)) p some a)) columns column r'
     begins P some =
         let same : d + 1 - 1 ≡ d = omega arith in
         first-stage P bounds.rows bounds.places widened (rw same (omega arith))
-        (held-matrixOf (by_rows n n (d + 1)) p some a checked.size checked.residues) laid
+        (held-matrix_of (by_rows n n (d + 1)) p some a checked.size checked.residues) laid
 
     pub stages-asked : length columns ≡ 3584 → length column ≡ 4040 → RunAsked p reciprocal n (d + 1) (n * d + 1) columns column r'
     stages-asked x y = record {

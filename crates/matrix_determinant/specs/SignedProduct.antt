@@ -1,7 +1,7 @@
 -- A product with a sign.
 use Rattle.std.specs.Prelude.{Bool, true, false, List, ℕ, ◌-◌, ◌≤◌, length}
 use Rattle.theory_algebra.specs.Ring.{CommRing}
-use Rattle.poly.specs.arithmetic.Operations.{productOf, ProductAsked, scaledBy}
+use Rattle.poly.specs.arithmetic.Operations.{product_of, ProductAsked, scaled_by}
 
 -- the unit of a sign modulo p: -1 is p - 1
 abbrev pub unit_of : ℕ → (negative : Bool) → ℕ
@@ -10,7 +10,7 @@ unit_of p false = 1
 
 -- a times b with the sign, modulo p, in as many places as a has
 unfoldable pub signed_product : ℕ → (negative : Bool) → List ℕ → List ℕ → List ℕ
-signed_product p negative a b = scaledBy p (unit_of p negative) (productOf p a b a)
+signed_product p negative a b = scaled_by p (unit_of p negative) (product_of p a b a)
 
 -- x with the sign, in a ring
 abbrev pub signed : {F : Type 0} → CommRing F → (negative : Bool) → F → F

@@ -6,7 +6,7 @@ use Prim.Native.Nat.{ℕ, ◌+◌, ◌≤◌, ◌<◌}
 use native.Mathlib.Omega.{arith}
 use Rattle.theory_algebra.proofs.Cases.{case-le}
 use Rattle.matrix_pivots.specs.declared.pivot.Pivot.{Pivot}
-use Rattle.matrix_pivots.specs.Pivot.{index_at, degreeAt}
+use Rattle.matrix_pivots.specs.Pivot.{index_at, degree_at}
 use Rattle.matrix_pivots.specs.Columns.{In, Entered, Meets, RepeatsColumn}
 use Rattle.matrix_pivots.specs.NextPair.{Partner, Chosen}
 use Rattle.matrix_pivots.proofs.Bits.{empty}
@@ -98,7 +98,7 @@ module _ (pivots : List Pivot) (n a b : ℕ) (s : Lower pivots n a) (p : Partner
   lower-on h all = record { to = omega arith; none = last_or a s.none (λ j l f. p.lowest j l (omega arith)) }
 
   pub lower-found : (l k : ℕ) → b < n
-      → ((degreeAt pivots b < degreeAt pivots a) × (l ≡ a) × (k ≡ b)) ⊎ ((degreeAt pivots a ≤ degreeAt pivots b) × (l ≡ b) × (k ≡ a)) → Chosen n pivots l k
+      → ((degree_at pivots b < degree_at pivots a) × (l ≡ a) × (k ≡ b)) ⊎ ((degree_at pivots a ≤ degree_at pivots b) × (l ≡ b) × (k ≡ a)) → Chosen n pivots l k
   lower-found l k h t = record {
     a = a;
     b = b;

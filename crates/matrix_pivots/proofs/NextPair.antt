@@ -9,7 +9,7 @@ use Rattle.theory_reduction.specs.Pivot.{index, height, Clash}
 use Rattle.theory_reduction.specs.Pair.{Pair, ordered-by, target}
 use Rattle.theory_reduction.proofs.Index.{index-most}
 use Rattle.matrix_pivots.specs.Columns.{Meets}
-use Rattle.matrix_pivots.specs.Pivot.{index_at, degreeAt, Pivots}
+use Rattle.matrix_pivots.specs.Pivot.{index_at, degree_at, Pivots}
 use Rattle.matrix_pivots.specs.NextPair.{NextAsked, Chosen, IsNext, IsNextOf}
 use Rattle.matrix_pivots.specs.declared.pivot.Pivot.{Pivot}
 use Rattle.matrix_pivots.specs.declared.next_pair.Next.{Next}
@@ -43,14 +43,14 @@ module _ (n m : ℕ) (v : ℕ → ℕ) (pivots : List Pivot) (p : Pivots n m v p
   unfolding target ordered-by
   turned l k x = go x.turned (dec_lt (height m (v x.b)) (height m (v x.a)))
     where
-      a-is : degreeAt pivots x.a ≡ height m (v x.a)
+      a-is : degree_at pivots x.a ≡ height m (v x.a)
       a-is = let o = x.ordered in let f = x.fits in (p.row x.a (omega arith)).degree-is
 
-      b-is : degreeAt pivots x.b ≡ height m (v x.b)
+      b-is : degree_at pivots x.b ≡ height m (v x.b)
       b-is = (p.row x.b x.fits).degree-is
 
-      go : ((degreeAt pivots x.b < degreeAt pivots x.a) × (l ≡ x.a) × (k ≡ x.b))
-          ⊎ ((degreeAt pivots x.a ≤ degreeAt pivots x.b) × (l ≡ x.b) × (k ≡ x.a))
+      go : ((degree_at pivots x.b < degree_at pivots x.a) × (l ≡ x.a) × (k ≡ x.b))
+          ⊎ ((degree_at pivots x.a ≤ degree_at pivots x.b) × (l ≡ x.b) × (k ≡ x.a))
           → (d : Dec (height m (v x.b) < height m (v x.a))) → ordered-by d x.a x.b ≡ (l, k)
       go (inl (h, e, q)) (yes _) = ap₂ (λ (s t : ℕ). (s, t)) (sym e) (sym q)
       go (inl (h, e, q)) (no z) = absurd (z (omega (arith, a-is, b-is)))

@@ -7,7 +7,7 @@ use native.Mathlib.Nat as N
 use native.Mathlib.Decide.{dec_le}
 use native.Mathlib.Omega.{arith}
 use lib.ListN.{length, get_or, take, drop}
-use Rattle.theory_lists.specs.Last.{lastNonzero}
+use Rattle.theory_lists.specs.Last.{last_nonzero}
 use Rattle.theory_lists.proofs.Last.{last-nil, last-zero, last-here, IsLast, last-is, last-unique}
 use Rattle.theory_lists.proofs.Part.{length_part, get_d_part}
 use Rattle.theory_reduction.specs.Pivot.{index, height}
@@ -31,7 +31,7 @@ height-above m (suc x) columns =
 pub record Searching (row : List ℕ) (m w t c at : ℕ) : Type 0 where
   pub to : c ≤ m
   pub at-is : at ≡ c * w + t
-  pub here : lastNonzero m (line row w t) ≡ lastNonzero c (line row w t)
+  pub here : last_nonzero m (line row w t) ≡ last_nonzero c (line row w t)
 
 module _ (row : List ℕ) (m w t : ℕ) (asked : Line m w t row) where
   pub searching-start : Searching row m w t m (m * w + t)
@@ -47,7 +47,7 @@ module _ (row : List ℕ) (m w t : ℕ) (asked : Line m w t row) where
     here-is : get_or row (at - w) 0 ≡ line row w t (c - 1)
     here-is = ap (λ (i : ℕ). get_or row i 0) searching-fits.1
 
-    pub searching-found : get_or row (at - w) 0 ≢ 0 → c ≡ lastNonzero m (line row w t)
+    pub searching-found : get_or row (at - w) 0 ≢ 0 → c ≡ last_nonzero m (line row w t)
     searching-found ne = sym (s.here ∙ last-here c (line row w t) some (λ z. ne (here-is ∙ z)))
 
     pub searching-on : get_or row (at - w) 0 ≡ 0 → Searching row m w t (c - 1) (at - w)
@@ -57,10 +57,10 @@ module _ (row : List ℕ) (m w t : ℕ) (asked : Line m w t row) where
       here = s.here ∙ last-zero c (line row w t) some (sym here-is ∙ z);
     }
 
-  pub searching-none : (c at : ℕ) → Searching row m w t c at → c ≤ 0 → 0 ≡ lastNonzero m (line row w t)
+  pub searching-none : (c at : ℕ) → Searching row m w t c at → c ≤ 0 → 0 ≡ last_nonzero m (line row w t)
   searching-none c at s h =
       let none : c ≡ 0 = omega arith in
-      sym (s.here ∙ ap (λ (x : ℕ). lastNonzero x (line row w t)) none ∙ last-nil (line row w t))
+      sym (s.here ∙ ap (λ (x : ℕ). last_nonzero x (line row w t)) none ∙ last-nil (line row w t))
 
 -- the value of a row whose lines from t on are zero and whose line t - 1 ends at column x
 module _ (m w t x : ℕ) (row : List ℕ) (columns : 0 < m) (low : 0 < t) (high : t ≤ w) (some : 0 < x)
@@ -135,7 +135,7 @@ pivot-none m w row columns zeros = record { index_is = sym (ap (index m) none); 
     })
 
 -- a line that is zero is added to those that are
-pub zeros-more : (m w t : ℕ) (row : List ℕ) → 0 < t → ((c s : ℕ) → c < m → t ≤ s → s < w → get_or row (c * w + s) 0 ≡ 0) → lastNonzero m (line row w (t - 1)) ≡ 0
+pub zeros-more : (m w t : ℕ) (row : List ℕ) → 0 < t → ((c s : ℕ) → c < m → t ≤ s → s < w → get_or row (c * w + s) 0 ≡ 0) → last_nonzero m (line row w (t - 1)) ≡ 0
     → (c s : ℕ) → c < m → t - 1 ≤ s → s < w → get_or row (c * w + s) 0 ≡ 0
 zeros-more m w t row low zeros none c s lc from to = elim (dec_le t s) [
   | yes later ↦ zeros c s lc later to

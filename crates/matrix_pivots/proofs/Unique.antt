@@ -9,7 +9,7 @@ use native.Mathlib.Omega.{arith}
 use lib.Seq.{ext_get_or}
 use Rattle.theory_algebra.proofs.Cases.{case-le, neither}
 use Rattle.theory_algebra.proofs.Flag.{flag-unique}
-use Rattle.matrix_pivots.specs.Pivot.{zeroRow, degreeAt, IsPivotOf, AllPivots}
+use Rattle.matrix_pivots.specs.Pivot.{zero_row, degree_at, IsPivotOf, AllPivots}
 use Rattle.matrix_pivots.specs.Columns.{Meets}
 use Rattle.matrix_pivots.specs.NextPair.{Chosen, IsNext}
 use Rattle.matrix_pivots.specs.declared.pivot.Pivot.{Pivot}
@@ -33,7 +33,7 @@ pivot-unique x y f g =
 
 -- of `all`
 pub all-unique : {n m : ℕ} {v : ℕ → ℕ} (x y : List Pivot) → AllPivots n m v x → AllPivots n m v y → x ≡ y
-all-unique {n} x y f g = ext_get_or zeroRow x y (f.size ∙ sym g.size) (λ i _. case-le n i
+all-unique {n} x y f g = ext_get_or zero_row x y (f.size ∙ sym g.size) (λ i _. case-le n i
     (λ past. f.rest i past ∙ sym (g.rest i past))
     (λ less. pivot-unique _ _ (f.pivots-are.row i less) (g.pivots-are.row i less)))
 
@@ -53,13 +53,13 @@ chosen-unique {n} {pivots} {l} {k} {l'} {k'} c d = rows c.turned d.turned
     same-b : c.b ≡ d.b
     same-b = neither c.b d.b (second c d same-a) (second d c (sym same-a))
 
-    rows : ((degreeAt pivots c.b < degreeAt pivots c.a) × (l ≡ c.a) × (k ≡ c.b)) ⊎ ((degreeAt pivots c.a ≤ degreeAt pivots c.b) × (l ≡ c.b) × (k ≡ c.a))
-        → ((degreeAt pivots d.b < degreeAt pivots d.a) × (l' ≡ d.a) × (k' ≡ d.b)) ⊎ ((degreeAt pivots d.a ≤ degreeAt pivots d.b) × (l' ≡ d.b) × (k' ≡ d.a))
+    rows : ((degree_at pivots c.b < degree_at pivots c.a) × (l ≡ c.a) × (k ≡ c.b)) ⊎ ((degree_at pivots c.a ≤ degree_at pivots c.b) × (l ≡ c.b) × (k ≡ c.a))
+        → ((degree_at pivots d.b < degree_at pivots d.a) × (l' ≡ d.a) × (k' ≡ d.b)) ⊎ ((degree_at pivots d.a ≤ degree_at pivots d.b) × (l' ≡ d.b) × (k' ≡ d.a))
         → (l ≡ l') × (k ≡ k')
     rows (inl (_, is-l, is-k)) (inl (_, is-l', is-k')) = (is-l ∙ same-a ∙ sym is-l', is-k ∙ same-b ∙ sym is-k')
     rows (inr (_, is-l, is-k)) (inr (_, is-l', is-k')) = (is-l ∙ same-b ∙ sym is-l', is-k ∙ same-a ∙ sym is-k')
-    rows (inl (less, _, _)) (inr (more, _, _)) = absurd (omega (arith, ap (degreeAt pivots) same-a, ap (degreeAt pivots) same-b))
-    rows (inr (more, _, _)) (inl (less, _, _)) = absurd (omega (arith, ap (degreeAt pivots) same-a, ap (degreeAt pivots) same-b))
+    rows (inl (less, _, _)) (inr (more, _, _)) = absurd (omega (arith, ap (degree_at pivots) same-a, ap (degree_at pivots) same-b))
+    rows (inr (more, _, _)) (inl (less, _, _)) = absurd (omega (arith, ap (degree_at pivots) same-a, ap (degree_at pivots) same-b))
 
 pub next-unique : (n : ℕ) (pivots : List Pivot) (x y : Next) → IsNext n pivots x → IsNext n pivots y → x ≡ y
 next-unique n pivots Nothing Nothing f g = refl

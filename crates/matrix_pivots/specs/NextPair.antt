@@ -1,7 +1,7 @@
 -- The two rows of a step, by the pivots of the n rows. Rows are counted from 0.
 use Rattle.std.specs.Prelude.{◌≡◌, ◌⊎◌, List, ℕ, ◌≤◌, ◌<◌}
 use Rattle.theory_reduction.specs.Pair as Reduction
-use Rattle.matrix_pivots.specs.Pivot.{index_at, degreeAt}
+use Rattle.matrix_pivots.specs.Pivot.{index_at, degree_at}
 use Rattle.matrix_pivots.specs.Columns.{Meets}
 use Rattle.matrix_pivots.specs.declared.pivot.Pivot.{Pivot}
 use Rattle.matrix_pivots.specs.declared.next_pair.Next.{Next}
@@ -28,7 +28,7 @@ pub record Chosen (n : ℕ) (pivots : List Pivot) (l k : ℕ) : Type 0 where
   pub meets : Meets pivots a b
   pub lowest-a : (i j : ℕ) → i < a → i < j → j < n → ¬ (Meets pivots i j)
   pub lowest-b : (j : ℕ) → a < j → j < b → ¬ (Meets pivots a j)
-  pub turned : ((degreeAt pivots b < degreeAt pivots a) × (l ≡ a) × (k ≡ b)) ⊎ ((degreeAt pivots a ≤ degreeAt pivots b) × (l ≡ b) × (k ≡ a))
+  pub turned : ((degree_at pivots b < degree_at pivots a) × (l ≡ a) × (k ≡ b)) ⊎ ((degree_at pivots a ≤ degree_at pivots b) × (l ≡ b) × (k ≡ a))
 
 abbrev pub IsNext : ℕ → List Pivot → Next → Type 0
 IsNext n pivots Nothing = (i j : ℕ) → i < j → j < n → ¬ (Meets pivots i j)

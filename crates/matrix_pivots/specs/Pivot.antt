@@ -1,6 +1,6 @@
 -- Pivots of rows in lists: m cells of w places each. The pivots of a matrix are a list, one for each row.
 use Rattle.std.specs.Prelude.{◌≡◌, List, ℕ, zero, suc, ◌*◌, ◌+◌, ◌-◌, ◌/◌, ◌%◌, ◌≤◌, ◌<◌, min, length, get_or}
-use Rattle.theory_lists.specs.Last.{lastNonzero}
+use Rattle.theory_lists.specs.Last.{last_nonzero}
 use Rattle.theory_lists.specs.Part.{part}
 use Rattle.theory_lists.specs.Total.{total}
 use Rattle.theory_reduction.specs.Pivot.{index, height}
@@ -9,7 +9,7 @@ use Rattle.matrix_pivots.specs.declared.pivot.Pivot.{Pivot}
 -- the number D·m + I of a row, for the pivot index I and the pivot degree D; 0 for a zero row.
 -- The coefficients are looked through by degree and then by column, from the last one down.
 unfoldable pub value_of : ℕ → ℕ → List ℕ → ℕ
-value_of m w row = lastNonzero (w * m) (λ x. get_or row (x % m * w + x / m) 0)
+value_of m w row = last_nonzero (w * m) (λ x. get_or row (x % m * w + x / m) 0)
 
 -- row i of a matrix
 abbrev pub row_of : ℕ → ℕ → List ℕ → ℕ → List ℕ
@@ -20,8 +20,8 @@ abbrev pub values_of : ℕ → ℕ → List ℕ → ℕ → ℕ
 values_of m w r i = value_of m w (row_of m w r i)
 
 -- and their pivot degrees, that of a zero row counting as 0
-abbrev pub degreesOf : ℕ → ℕ → List ℕ → ℕ → ℕ
-degreesOf m w r i = height m (values_of m w r i) - 1
+abbrev pub degrees_of : ℕ → ℕ → List ℕ → ℕ → ℕ
+degrees_of m w r i = height m (values_of m w r i) - 1
 
 -- x and d are the pivot index and one more than the pivot degree of a row of value v
 pub record IsPivotOf (m v x d : ℕ) : Type 0 where
@@ -55,33 +55,33 @@ pub record MatrixAsked (n m w : ℕ) (r : List ℕ) : Type 0 where
   pub columns : 0 < m
 
 -- "A zero row has I = 0 and D = -1."
-abbrev pub zeroRow : Pivot
-zeroRow = record { index = record { 0 = 0 }; degree = record { 0 = 0 } }
+abbrev pub zero_row : Pivot
+zero_row = record { index = record { 0 = 0 }; degree = record { 0 = 0 } }
 
 -- the pivot index of row i
 abbrev pub index_at : List Pivot → ℕ → ℕ
-index_at pivots i = (get_or pivots i zeroRow).index.0
+index_at pivots i = (get_or pivots i zero_row).index.0
 
 -- one more than the pivot degree of row i
-abbrev pub degreeAt : List Pivot → ℕ → ℕ
-degreeAt pivots i = (get_or pivots i zeroRow).degree.0
+abbrev pub degree_at : List Pivot → ℕ → ℕ
+degree_at pivots i = (get_or pivots i zero_row).degree.0
 
 -- the pivots of n rows of values v
 pub record Pivots (n m : ℕ) (v : ℕ → ℕ) (pivots : List Pivot) : Type 0 where
-  pub row : (i : ℕ) → i < n → IsPivotOf m (v i) (index_at pivots i) (degreeAt pivots i)
+  pub row : (i : ℕ) → i < n → IsPivotOf m (v i) (index_at pivots i) (degree_at pivots i)
 
 -- the pivots of n rows and of no other: from n on stand those of zero rows
 pub record AllPivots (n m : ℕ) (v : ℕ → ℕ) (pivots : List Pivot) : Type 0 where
   pub pivots-are : Pivots n m v pivots
-  pub rest : (i : ℕ) → n ≤ i → get_or pivots i zeroRow ≡ zeroRow
+  pub rest : (i : ℕ) → n ≤ i → get_or pivots i zero_row ≡ zero_row
   pub size : length pivots ≡ 8
 
 -- the least of the pivot degrees of n rows, that of a zero row counting as 0, or w where that is less
-unfoldable pub leastDegree : ℕ → ℕ → List Pivot → ℕ
-leastDegree w zero pivots = w
-leastDegree w (suc n) pivots = min (leastDegree w n pivots) (degreeAt pivots n - 1)
+unfoldable pub least_degree : ℕ → ℕ → List Pivot → ℕ
+least_degree w zero pivots = w
+least_degree w (suc n) pivots = min (least_degree w n pivots) (degree_at pivots n - 1)
 
 -- the pivots of n rows, whose degrees together are a number of the machine
 pub record SumAsked (n : ℕ) (pivots : List Pivot) : Type 0 where
   pub rows : n ≤ 8
-  pub fits : total n (λ i. degreeAt pivots i - 1) < 18446744073709551616
+  pub fits : total n (λ i. degree_at pivots i - 1) < 18446744073709551616

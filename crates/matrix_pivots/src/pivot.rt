@@ -1,11 +1,11 @@
 // The pivot of a row: the rightmost entry of greatest degree. A column number is never compared with a degree, so that
 // each has a type of its own, and what is asked of them is asked by a method.
 ghost use Rattle.std.specs.Prelude.{◌≡◌, true, ◌↔◌, ◌+◌, ◌*◌, ◌-◌, ◌<◌, ◌≤◌, min, get_or};
-ghost use Rattle.theory_lists.specs.Last.{lastNonzero};
+ghost use Rattle.theory_lists.specs.Last.{last_nonzero};
 ghost use Rattle.theory_lists.specs.Total.{total};
 ghost use Rattle.theory_reduction.specs.Rank.{sign, chosen};
 ghost use Rattle.matrix_pivots.specs.Pivot.{value_of, row_of, values_of, IsPivotOf, Line, RowAsked, RowOfAsked, MatrixAsked, SumAsked};
-ghost use Rattle.matrix_pivots.specs.Pivot.{index_at, degreeAt, AllPivots, leastDegree};
+ghost use Rattle.matrix_pivots.specs.Pivot.{index_at, degree_at, AllPivots, least_degree};
 
 // The column of the pivot, counted from 1; 0 for a zero row.
 #[derive(Drop)]
@@ -115,7 +115,7 @@ impl PivotDegree {
 // The rightmost entry of a row that has a coefficient of degree t; that of a zero row if none has.
 fn rightmost(row: &[u16], m: usize, w: usize, t: usize) -> PivotIndex
     requires { Line m w t row.now }
-    ensures { result.0 ≡ lastNonzero m (λ c. get_or row.now (c * w + t) 0) }
+    ensures { result.0 ≡ last_nonzero m (λ c. get_or row.now (c * w + t) 0) }
 {
     let mut c = m;
     let mut at = m * w + t;
@@ -199,7 +199,7 @@ fn lesser(a: usize, b: usize) -> usize
 // The least of the pivot degrees, or w where that is less.
 pub fn least(pivots: [Pivot; 8], n: usize, w: usize) -> usize
     requires { n ≤ 8 }
-    ensures { result ≡ leastDegree w n pivots }
+    ensures { result ≡ least_degree w n pivots }
 {
     let mut x = w;
     let mut i = 0;
@@ -231,7 +231,7 @@ pub fn rank(pivots: [Pivot; 8], n: usize) -> usize
 // The pivot degrees of the rows together, that of a zero row counting as 0.
 pub fn degree_sum(pivots: [Pivot; 8], n: usize) -> usize
     requires { SumAsked n pivots }
-    ensures { result ≡ total n (λ i. degreeAt pivots i - 1) }
+    ensures { result ≡ total n (λ i. degree_at pivots i - 1) }
 {
     let mut sum = 0;
     let mut i = 0;

@@ -1,7 +1,7 @@
 // The steps of the second kind on the buffers: "go through the non-zero rows from the top."
 ghost use Rattle.std.specs.Prelude.{◌≡◌, ◌+◌};
 ghost use Rattle.matrix_steps.specs.multiple.Asked.{CoefficientAsked};
-ghost use Rattle.matrix_popov.specs.second_step.Excess.{excessOf, excessAt, HighestAsked, IsHighest};
+ghost use Rattle.matrix_popov.specs.second_step.Excess.{excess_of, excess_at, HighestAsked, IsHighest};
 ghost use Rattle.matrix_popov.specs.second_step.Removing.{TermAsked, Removes, RemoveAsked, SecondMove, RemovingAsked, ClearAsked, Cleared};
 
 use matrix_pivots::Pivot;
@@ -21,7 +21,7 @@ struct Found {
 // is negative.
 fn excess(r: &[u16], k: usize, pivot: Pivot, m: usize, w: usize) -> usize
     requires { CoefficientAsked m w k pivot.index.0 pivot.degree.0 r.now }
-    ensures { result ≡ excessOf m w r.now k pivot }
+    ensures { result ≡ excess_of m w r.now k pivot }
 {
     let x = pivot.index;
     let d = pivot.degree;
@@ -34,7 +34,7 @@ fn excess(r: &[u16], k: usize, pivot: Pivot, m: usize, w: usize) -> usize
 // The lowest row before k that has the greatest excess.
 fn highest(r: &[u16], pivots: [Pivot; 8], k: usize, m: usize, w: usize) -> Found
     requires { HighestAsked m w k r.now pivots }
-    ensures { IsHighest k (excessAt m w r.now pivots k) result.at result.excess }
+    ensures { IsHighest k (excess_at m w r.now pivots k) result.at result.excess }
 {
     let mut at = 0;
     let mut most = 0;

@@ -22,17 +22,17 @@ use Rattle.theory_reduction.proofs.Facts.{reduction-facts}
 use Rattle.theory_popov.specs.PopovFacts.{PopovFacts}
 use Rattle.theory_popov.proofs.Facts.{popov-facts}
 use Rattle.theory_popov.proofs.Equivalence.{popov-equivalent}
-use Rattle.matrix_promises.specs.Refused.{reductionSizes}
+use Rattle.matrix_promises.specs.Refused.{reduction_sizes}
 use Rattle.matrix_promises.specs.Layout.{by_rows}
-use Rattle.matrix_promises.specs.Held.{Held, matrixOf}
+use Rattle.matrix_promises.specs.Held.{Held, matrix_of}
 use Rattle.matrix_promises.specs.Reduced.{ReducedBy}
 use Rattle.matrix_promises.specs.RowList.{mask_of, ListedBy}
 use Rattle.matrix_promises.specs.Popov.{PopovBy}
 use Rattle.matrix_promises.specs.Service.{Service, Promise}
-use Rattle.matrix_promises.specs.Services.{WholeCall, ReductionOutcome, PopovOutcome, lengths, reduction, singleStep, popovForm, determinant}
+use Rattle.matrix_promises.specs.Services.{WholeCall, ReductionOutcome, PopovOutcome, lengths, reduction, single_step, popov_form, determinant}
 use Rattle.matrix_promises.specs.Facts.{input_of, InBounds, ReducedFacts, FormedFacts}
 use Rattle.matrix_promises.specs.Demands.{OneAnswer, Demand1, Demand2, Demand3}
-use Rattle.matrix_promises.proofs.Held.{held-matrixOf, held-bounded, held-unique, held_same, held-matrix-same}
+use Rattle.matrix_promises.proofs.Held.{held-matrix_of, held-bounded, held-unique, held_same, held-matrix-same}
 use Rattle.matrix_promises.proofs.Tables.{InOrder, in_order, sized, matrix-decided, determinant-decided, answering-unique}
 use Rattle.matrix_promises.proofs.Unique.{reduction-unique, row-list-unique, stepped-unique, popov-form-unique, determinant-unique}
 
@@ -45,7 +45,7 @@ reduction-same c x y P (f, rows) (g, rows') =
     let masks = row-list-unique P rows rows' in
     λ i. record { rank = ranks i; count = counts i; rows = masks i; r = same-r i; u = same-u i; v = same-v i }
 
-popov-same : (c : WholeCall) (x y : PopovOutcome) → Prime c.p → popovForm.Done c x → popovForm.Done c y → x ≡ y
+popov-same : (c : WholeCall) (x y : PopovOutcome) → Prime c.p → popov_form.Done c x → popov_form.Done c y → x ≡ y
 popov-same c x y P f g =
     let (ranks, firsts, seconds, same-r, same-u, same-v) = popov-form-unique P f g in
     λ i. record { rank = ranks i; first = firsts i; second = seconds i; r = same-r i; u = same-u i; v = same-v i }
@@ -62,16 +62,16 @@ answers S one = record {
 pub demand-1 : Demand1
 demand-1 = (
   answers reduction (λ c k i l j x y. answering-unique matrix-decided (reduction-same c x y)),
-  answers singleStep (λ c k i l j x y. answering-unique matrix-decided (λ P f g.
+  answers single_step (λ c k i l j x y. answering-unique matrix-decided (λ P f g.
       let (counts, results) = stepped-unique P f g in λ i. record { count = counts i; r = results i })),
-  answers popovForm (λ c k i l j x y. answering-unique matrix-decided (popov-same c x y)),
+  answers popov_form (λ c k i l j x y. answering-unique matrix-decided (popov-same c x y)),
   answers determinant (λ c k i l j x y. answering-unique determinant-decided determinant-unique),
 )
 
 -- ## Demand 2
 
 -- a call that is in order: the matrix in its input is the one that its places say
-module _ (c : WholeCall) (order : InOrder c.p c.n c.m c.d (lengths c) (reductionSizes c.n c.m c.d) c.a) where
+module _ (c : WholeCall) (order : InOrder c.p c.n c.m c.d (lengths c) (reduction_sizes c.n c.m c.d) c.a) where
   columns : 0 < c.m
   columns = omega (arith, order.numbers.shape.columns)
 
@@ -79,7 +79,7 @@ module _ (c : WholeCall) (order : InOrder c.p c.n c.m c.d (lengths c) (reduction
       → AllBounded (zp-field c.p P).ring c.n c.m (c.d + 1) (input_of c some)
   input-bounded P some =
       let L : Layout c.n c.m (c.d + 1) = by_rows c.n c.m (c.d + 1) in
-      held-bounded L c.p P (held-matrixOf L c.p some c.a (sized order 0) order.residues)
+      held-bounded L c.p P (held-matrix_of L c.p some c.a (sized order 0) order.residues)
 
 -- the bounds on U and V, a cell of V having d + 1 places
 in_bounds : {F : Type 0} (K : Field F) (n d : ℕ) (t : Carried F)
@@ -108,7 +108,7 @@ reduced c x promised P some = record {
   independent = facts.listed;
 }
   where
-    order : InOrder c.p c.n c.m c.d (lengths c) (reductionSizes c.n c.m c.d) c.a
+    order : InOrder c.p c.n c.m c.d (lengths c) (reduction_sizes c.n c.m c.d) c.a
     order = in_order refl promised.told
 
     f : ReducedBy c.p P some c.n c.m (c.d + 1) c.a x.r x.u x.v x.rank x.count
@@ -121,7 +121,7 @@ reduced c x promised P some = record {
     facts = reduction-facts (zp-field c.p P) c.n c.m (c.d + 1) (input_of c some) (columns c order) (omega arith)
         (input-bounded c order P some) x.count f.t f.runs
 
-formed : (c : WholeCall) (x : PopovOutcome) → Promise popovForm c 0 0 x → (P : Prime c.p) (some : 0 < c.p) → FormedFacts c P some x
+formed : (c : WholeCall) (x : PopovOutcome) → Promise popov_form c 0 0 x → (P : Prime c.p) (some : 0 < c.p) → FormedFacts c P some x
 formed c x promised P some = record {
   t = f.t;
   holding = f.holding;
@@ -134,7 +134,7 @@ formed c x promised P some = record {
   second-rank = rw f.rank_is facts.second-bound;
 }
   where
-    order : InOrder c.p c.n c.m c.d (lengths c) (reductionSizes c.n c.m c.d) c.a
+    order : InOrder c.p c.n c.m c.d (lengths c) (reduction_sizes c.n c.m c.d) c.a
     order = in_order refl promised.told
 
     f : PopovBy c.p P some c.n c.m (c.d + 1) c.a x.r x.u x.v x.rank x.first x.second
@@ -164,7 +164,7 @@ demand-3 p n m d a r u v b s y z one other f g P some =
     x' : PopovBy p P some n m (d + 1) b other.r other.u other.v other.rank other.first other.second
     x' = (g.done refl).by P some
 
-    iff : Same n m x.t.R x'.t.R ↔ LeftEquivalent (zp-field p P).ring n m (matrixOf L p some a) (matrixOf L p some b)
+    iff : Same n m x.t.R x'.t.R ↔ LeftEquivalent (zp-field p P).ring n m (matrix_of L p some a) (matrix_of L p some b)
     iff = popov-equivalent (zp-field p P) n m (d + 1) (columns (call a r u v) (in_order refl f.told)) (omega arith)
         (input-bounded (call a r u v) (in_order refl f.told) P some) (input-bounded (call b s y z) (in_order refl g.told) P some) x.run x'.run
 

@@ -18,7 +18,7 @@ use Rattle.theory_lattice.specs.Row.{Row}
 use Rattle.theory_lattice.specs.PolynomialMatrix.{AllBounded}
 use Rattle.theory_lists.specs.Coefficients.{Coefficients}
 use Rattle.theory_lists.specs.Place.{Hit, Layout}
-use Rattle.matrix_promises.specs.Held.{Held, matrixOf}
+use Rattle.matrix_promises.specs.Held.{Held, matrix_of}
 use Rattle.theory_lists.proofs.Place.{turned}
 
 module _ {n m w : ℕ} (L : Layout n m w) (p : ℕ) where
@@ -54,9 +54,9 @@ module _ {n m w : ℕ} (L : Layout n m w) (p : ℕ) where
   }
 
   -- every list of residues that has the length holds a matrix
-  pub held-matrixOf : (some : 0 < p) (l : List ℕ) → length l ≡ n * (m * w) → Coefficients p l → Held L p l (matrixOf L p some l)
-  unfolding matrixOf
-  held-matrixOf some l size residues = record {
+  pub held-matrix_of : (some : 0 < p) (l : List ℕ) → length l ≡ n * (m * w) → Coefficients p l → Held L p l (matrix_of L p some l)
+  unfolding matrix_of
+  held-matrix_of some l size residues = record {
     size = size;
     at = λ i j t li lj lt. simp (lt-ltb t w lt) (sym (N.mod-eq_of_lt (residues.below _ (omega (arith, L.within i j t li lj lt)))));
     beyond = λ i j t li lj past. simp (le-ltb t w past) (N.zero-mod p);

@@ -9,8 +9,8 @@ use Rattle.theory_algebra.specs.Prime.{Prime}
 use Rattle.theory_algebra.proofs.Cases.{case-le}
 use Rattle.theory_lists.specs.Coefficients.{Coefficients}
 use Rattle.matrix_promises.specs.Answering.{Rule, Told, Answering}
-use Rattle.matrix_promises.specs.Refused.{Zero, FirstWrong, FirstHigh, Numbers, determinantSizes}
-use Rattle.matrix_promises.specs.Refused.{numberRules, squareRule, lengthRule, coefficientRule, matrixTable, determinantTable}
+use Rattle.matrix_promises.specs.Refused.{Zero, FirstWrong, FirstHigh, Numbers, determinant_sizes}
+use Rattle.matrix_promises.specs.Refused.{number_rules, square_rule, length_rule, coefficient_rule, matrix_table, determinant_table}
 
 -- ## A table in two parts
 
@@ -40,7 +40,7 @@ told-then (rule ∷ rules) further place k i some told h =
 -- ## What the tables want
 
 -- the numbers of a call to which its rules say nothing
-pub in-range : {p n m d : ℕ} (further : List Rule) {number place : ℕ} → number ≡ 0 → Told (numberRules p n m d further) number place
+pub in-range : {p n m d : ℕ} (further : List Rule) {number place : ℕ} → number ≡ 0 → Told (number_rules p n m d further) number place
     → Numbers p n m d × Told further number place
 in-range further none told =
     let (modulus, after-modulus) = past none (omega arith) told in
@@ -50,7 +50,7 @@ in-range further none told =
 
 -- where they are in range, what follows decides
 pub past-numbers : {p n m d : ℕ} (further : List Rule) {k i : ℕ} → Numbers p n m d → Told further k i
-    → Told (numberRules p n m d further) k i
+    → Told (number_rules p n m d further) k i
 past-numbers further numbers h = inr (numbers.modulus, inr (numbers.shape, inr (numbers.degree, h)))
 
 -- all that the table of a service wants
@@ -65,19 +65,19 @@ sized x k = ap (λ (l : List ℕ). get_or l k 0) x.lengths
 
 -- the number is 0, so all that it wants holds
 pub in_order : {p n m d : ℕ} {given wanted a : List ℕ} {number place : ℕ} → number ≡ 0
-    → Told (matrixTable p n m d given wanted a) number place → InOrder p n m d given wanted a
+    → Told (matrix_table p n m d given wanted a) number place → InOrder p n m d given wanted a
 in_order {p} {given = given} {wanted} {a} none told =
-    let (numbers, after-numbers) = in-range (lengthRule given wanted ∷ coefficientRule p a ∷ []) none told in
+    let (numbers, after-numbers) = in-range (length_rule given wanted ∷ coefficient_rule p a ∷ []) none told in
     let (lengths, after-lengths) = past none (omega arith) after-numbers in
     let (residues, _) = past none (omega arith) after-lengths in
     record { numbers = numbers; lengths = lengths; residues = residues }
 
 -- the table of the determinant wants a square matrix too
 pub determinant-in-order : {p n m d : ℕ} {given a : List ℕ} {number place : ℕ} → number ≡ 0
-    → Told (determinantTable p n m d given a) number place → (n ≡ m) × InOrder p n m d given (determinantSizes n m d) a
+    → Told (determinant_table p n m d given a) number place → (n ≡ m) × InOrder p n m d given (determinant_sizes n m d) a
 determinant-in-order {p} {n} {m} {d} {given} {a} none told =
-    let further = lengthRule given (determinantSizes n m d) ∷ coefficientRule p a ∷ [] in
-    let (numbers, after-numbers) = in-range (squareRule n m ∷ further) none told in
+    let further = length_rule given (determinant_sizes n m d) ∷ coefficient_rule p a ∷ [] in
+    let (numbers, after-numbers) = in-range (square_rule n m ∷ further) none told in
     let (square, after-square) = past none (omega arith) after-numbers in
     (square, in_order none (past-numbers further numbers after-square))
 
@@ -123,24 +123,24 @@ decides (rule ∷ rules) ones k i l j (inr f) (inr g) = decides rules ones.1 k i
 
 module _ {p n m d : ℕ} where
   -- the rules of the numbers, before others
-  pub with-numbers : (further : List Rule) → Places further → Decides (numberRules p n m d further)
-  with-numbers further places = decides (numberRules p n m d further) (zero_one, (zero_one, (zero_one, places)))
+  pub with-numbers : (further : List Rule) → Places further → Decides (number_rules p n m d further)
+  with-numbers further places = decides (number_rules p n m d further) (zero_one, (zero_one, (zero_one, places)))
 
   -- the table of a service whose result is a matrix
-  pub matrix-decided : {given wanted a : List ℕ} → Decides (matrixTable p n m d given wanted a)
+  pub matrix-decided : {given wanted a : List ℕ} → Decides (matrix_table p n m d given wanted a)
   matrix-decided {given} {wanted} {a} =
-      with-numbers (lengthRule given wanted ∷ coefficientRule p a ∷ []) (wrong-one given wanted, (high_one p a, tt))
+      with-numbers (length_rule given wanted ∷ coefficient_rule p a ∷ []) (wrong-one given wanted, (high_one p a, tt))
 
   -- the table of the determinant
-  pub determinant-decided : {given a : List ℕ} → Decides (determinantTable p n m d given a)
+  pub determinant-decided : {given a : List ℕ} → Decides (determinant_table p n m d given a)
   determinant-decided {given} {a} = with-numbers
-      (squareRule n m ∷ lengthRule given (determinantSizes n m d) ∷ coefficientRule p a ∷ [])
-      (zero_one, (wrong-one given (determinantSizes n m d), (high_one p a, tt)))
+      (square_rule n m ∷ length_rule given (determinant_sizes n m d) ∷ coefficient_rule p a ∷ [])
+      (zero_one, (wrong-one given (determinant_sizes n m d), (high_one p a, tt)))
 
 -- two answers by a table that begins so are equal in all that is returned and in the buffers, if this is true of what is done
 pub answering-unique : {p n m d : ℕ} {further : List Rule} {k i l j : ℕ} {Outcome : Type 0} {x y kept : Outcome} {Done Done' : Type 0}
-    → Decides (numberRules p n m d further) → (Prime p → Done → Done' → x ≡ y) → Answering (numberRules p n m d further) k i x kept Done
-    → Answering (numberRules p n m d further) l j y kept Done' → ◌≡◌ {A = ℕ × ℕ × Outcome} (k, i, x) (l, j, y)
+    → Decides (number_rules p n m d further) → (Prime p → Done → Done' → x ≡ y) → Answering (number_rules p n m d further) k i x kept Done
+    → Answering (number_rules p n m d further) l j y kept Done' → ◌≡◌ {A = ℕ × ℕ × Outcome} (k, i, x) (l, j, y)
 answering-unique {further = further} {k} decided done-same f g =
     let (numbers, places) = decided _ _ _ _ f.told g.told in
     let same = case-le k 0

@@ -14,14 +14,14 @@ use Rattle.theory_reduction.specs.Step.{Carried}
 use Rattle.theory_reduction.specs.WeakPopov.{WeakPopov}
 use Rattle.theory_popov.specs.PopovForm.{PopovForm}
 use Rattle.matrix_promises.specs.Layout.{by_rows}
-use Rattle.matrix_promises.specs.Held.{matrixOf}
+use Rattle.matrix_promises.specs.Held.{matrix_of}
 use Rattle.matrix_promises.specs.Holding.{Holding}
 use Rattle.matrix_promises.specs.RowList.{mask_of}
 use Rattle.matrix_promises.specs.Services.{WholeCall, ReductionOutcome, PopovOutcome}
 
 -- the matrix A of a call
 abbrev pub input_of : (c : WholeCall) → 0 < c.p → ℕ → Row (Zp c.p)
-input_of c some = matrixOf (by_rows c.n c.m (c.d + 1)) c.p some c.a
+input_of c some = matrix_of (by_rows c.n c.m (c.d + 1)) c.p some c.a
 
 -- "U needs no degree above n(d+1)-1 and V none above d": for U the sharp bound (n-1)d
 pub record InBounds {F : Type 0} (K : Field F) (n d : ℕ) (t : Carried F) : Type 0 where

@@ -7,7 +7,7 @@ use Rattle.theory_reduction.specs.Step.{Carried, begin}
 use Rattle.theory_reduction.specs.Run.{Runs}
 use Rattle.theory_reduction.specs.Rank as Rank
 use Rattle.matrix_promises.specs.Layout.{by_rows}
-use Rattle.matrix_promises.specs.Held.{Held, matrixOf}
+use Rattle.matrix_promises.specs.Held.{Held, matrix_of}
 use Rattle.matrix_promises.specs.Holding.{Holding}
 
 module _ (p : ℕ) (P : Prime p) (some : 0 < p) (n m w : ℕ) (a : List ℕ) where
@@ -15,7 +15,7 @@ module _ (p : ℕ) (P : Prime p) (some : 0 < p) (n m w : ℕ) (a : List ℕ) whe
   -- `count` steps lead to what stands in r, u and v, where no step applies
   pub record ReducedBy (r u v : List ℕ) (rank count : ℕ) : Type 0 where
     pub t : Carried (Zp p)
-    pub runs : Runs (zp-field p P) n m w count (begin (zp-field p P).ring (matrixOf (by_rows n m w) p some a)) t
+    pub runs : Runs (zp-field p P) n m w count (begin (zp-field p P).ring (matrix_of (by_rows n m w) p some a)) t
     pub holding : Holding p n m w r u v t
     -- "Rank: the number of non-zero rows of R."
     pub rank_is : rank ≡ Rank.rank (zp-field p P) n m w t.R
@@ -23,7 +23,7 @@ module _ (p : ℕ) (P : Prime p) (some : 0 < p) (n m w : ℕ) (a : List ℕ) whe
   -- the same of R alone: U and V are not kept
   pub record AloneBy (r : List ℕ) (rank count : ℕ) : Type 0 where
     pub t : Carried (Zp p)
-    pub runs : Runs (zp-field p P) n m w count (begin (zp-field p P).ring (matrixOf (by_rows n m w) p some a)) t
+    pub runs : Runs (zp-field p P) n m w count (begin (zp-field p P).ring (matrix_of (by_rows n m w) p some a)) t
     pub held : Held (by_rows n m w) p r t.R
     pub rank_is : rank ≡ Rank.rank (zp-field p P) n m w t.R
 

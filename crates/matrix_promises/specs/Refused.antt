@@ -23,16 +23,16 @@ pub record Numbers (p n m d : ℕ) : Type 0 where
   pub degree : InDegree d
 
 -- the places that the buffers should have, "in the order input, result, U, V"
-abbrev pub reductionSizes : ℕ → ℕ → ℕ → List ℕ
-reductionSizes n m d = n * (m * (d + 1)) ∷ n * (m * (d + 1)) ∷ n * (n * (n * (d + 1))) ∷ n * (n * (d + 1)) ∷ []
+abbrev pub reduction_sizes : ℕ → ℕ → ℕ → List ℕ
+reduction_sizes n m d = n * (m * (d + 1)) ∷ n * (m * (d + 1)) ∷ n * (n * (n * (d + 1))) ∷ n * (n * (d + 1)) ∷ []
 
 -- "The single step takes input and result only."
-abbrev pub stepSizes : ℕ → ℕ → ℕ → List ℕ
-stepSizes n m d = n * (m * (d + 1)) ∷ n * (m * (d + 1)) ∷ []
+abbrev pub step_sizes : ℕ → ℕ → ℕ → List ℕ
+step_sizes n m d = n * (m * (d + 1)) ∷ n * (m * (d + 1)) ∷ []
 
 -- "for the determinant, input, result", which has n·d+1 places
-abbrev pub determinantSizes : ℕ → ℕ → ℕ → List ℕ
-determinantSizes n m d = n * (m * (d + 1)) ∷ (n * d + 1) ∷ []
+abbrev pub determinant_sizes : ℕ → ℕ → ℕ → List ℕ
+determinant_sizes n m d = n * (m * (d + 1)) ∷ (n * d + 1) ∷ []
 
 -- buffer k, counted from 1, is the first whose length is not the one wanted
 pub record FirstWrong (given wanted : List ℕ) (k : ℕ) : Type 0 where
@@ -51,8 +51,8 @@ Zero place = place ≡ 0
 
 -- The rules of the refusal table that speak of p, n, m and d, each with its number, what has to hold lest it is returned, and
 -- the place; and then further rules.
-abbrev pub numberRules : (p n m d : ℕ) (further : List Rule) → List Rule
-numberRules p n m d further =
+abbrev pub number_rules : (p n m d : ℕ) (further : List Rule) → List Rule
+number_rules p n m d further =
     -- "p is not a prime in 2 to 65,521", place 0
     (1, Accepted p, Zero) ∷
     -- "n or m outside 1 to 8", place 0
@@ -62,23 +62,23 @@ numberRules p n m d further =
     further
 
 -- "determinant wanted, n and m differ", place 0
-abbrev pub squareRule : (n m : ℕ) → Rule
-squareRule n m = (4, n ≡ m, Zero)
+abbrev pub square_rule : (n m : ℕ) → Rule
+square_rule n m = (4, n ≡ m, Zero)
 
 -- "a buffer's length is not the table's", place "the first such buffer, counted from 1": `given` are the lengths of the buffers,
 -- `wanted` those that they should have
-abbrev pub lengthRule : (given wanted : List ℕ) → Rule
-lengthRule given wanted = (5, given ≡ wanted, FirstWrong given wanted)
+abbrev pub length_rule : (given wanted : List ℕ) → Rule
+length_rule given wanted = (5, given ≡ wanted, FirstWrong given wanted)
 
 -- "an input coefficient is p or more", place "its index, counted from 0, first one": a is the input
-abbrev pub coefficientRule : (p : ℕ) (a : List ℕ) → Rule
-coefficientRule p a = (6, Coefficients p a, FirstHigh p a)
+abbrev pub coefficient_rule : (p : ℕ) (a : List ℕ) → Rule
+coefficient_rule p a = (6, Coefficients p a, FirstHigh p a)
 
 -- The refusal table of a service whose result is a matrix: the reduction, the single step and the Popov form.
-abbrev pub matrixTable : (p n m d : ℕ) (given wanted a : List ℕ) → List Rule
-matrixTable p n m d given wanted a = numberRules p n m d (lengthRule given wanted ∷ coefficientRule p a ∷ [])
+abbrev pub matrix_table : (p n m d : ℕ) (given wanted a : List ℕ) → List Rule
+matrix_table p n m d given wanted a = number_rules p n m d (length_rule given wanted ∷ coefficient_rule p a ∷ [])
 
 -- The refusal table of the determinant.
-abbrev pub determinantTable : (p n m d : ℕ) (given a : List ℕ) → List Rule
-determinantTable p n m d given a =
-    numberRules p n m d (squareRule n m ∷ lengthRule given (determinantSizes n m d) ∷ coefficientRule p a ∷ [])
+abbrev pub determinant_table : (p n m d : ℕ) (given a : List ℕ) → List Rule
+determinant_table p n m d given a =
+    number_rules p n m d (square_rule n m ∷ length_rule given (determinant_sizes n m d) ∷ coefficient_rule p a ∷ [])

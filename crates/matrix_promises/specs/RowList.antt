@@ -9,7 +9,7 @@ use Rattle.theory_reduction.specs.Rank.{sign}
 use Rattle.theory_reduction.specs.Run.{Runs}
 use Rattle.theory_reduction.specs.Step.{Carried, begin}
 use Rattle.matrix_promises.specs.Layout.{by_rows}
-use Rattle.matrix_promises.specs.Held.{matrixOf}
+use Rattle.matrix_promises.specs.Held.{matrix_of}
 
 -- of n rows those where z is not 0, as a mask in which bit i stands for row i, counted from 0
 abbrev pub mask_of : ℕ → (ℕ → ℕ) → ℕ
@@ -19,7 +19,7 @@ mask_of n z = total n (λ i. sign (z i) * 2 ^ i)
 pub record ListedBy (p : ℕ) (P : Prime p) (some : 0 < p) (n m w : ℕ) (a : List ℕ) (rows : ℕ) : Type 0 where
   pub count : ℕ
   pub t : Carried (Zp p)
-  pub runs : Runs (zp-field p P) n m w count (begin (zp-field p P).ring (matrixOf (by_rows n m w) p some a)) t
+  pub runs : Runs (zp-field p P) n m w count (begin (zp-field p P).ring (matrix_of (by_rows n m w) p some a)) t
   pub rows_are : rows ≡ mask_of n (values (zp-field p P) m w t.R)
 
 -- whatever proof of primality is in hand

@@ -1,6 +1,6 @@
 -- The services: reduction, single step, Popov form and determinant.
 use Rattle.std.specs.Prelude.{List, [], ◌∷◌, ℕ, ◌+◌, length}
-use Rattle.matrix_promises.specs.Refused.{reductionSizes, stepSizes, matrixTable, determinantTable}
+use Rattle.matrix_promises.specs.Refused.{reduction_sizes, step_sizes, matrix_table, determinant_table}
 use Rattle.matrix_promises.specs.Service.{Service}
 use Rattle.matrix_promises.specs.Reduced.{IsReduction}
 use Rattle.matrix_promises.specs.RowList.{IsRowList}
@@ -32,8 +32,8 @@ pub record ShortCall : Type 0 where
 abbrev pub lengths : WholeCall → List ℕ
 lengths c = length c.a ∷ length c.r ∷ length c.u ∷ length c.v ∷ []
 
-abbrev pub shortLengths : ShortCall → List ℕ
-shortLengths c = length c.a ∷ length c.r ∷ []
+abbrev pub short_lengths : ShortCall → List ℕ
+short_lengths c = length c.a ∷ length c.r ∷ []
 
 -- what the reduction returns, and what result, U and V hold at exit
 pub record ReductionOutcome : Type 0 where
@@ -49,7 +49,7 @@ abbrev pub reduction : Service
 reduction = record {
   Call = WholeCall;
   Outcome = ReductionOutcome;
-  table = λ c. matrixTable c.p c.n c.m c.d (lengths c) (reductionSizes c.n c.m c.d) c.a;
+  table = λ c. matrix_table c.p c.n c.m c.d (lengths c) (reduction_sizes c.n c.m c.d) c.a;
   -- "Rank and counts in a refusal are 0, the row list is empty, and every buffer holds what it held at entry."
   kept = λ c. record { rank = 0; count = 0; rows = 0; r = c.r; u = c.u; v = c.v };
   Done = λ c x.
@@ -67,11 +67,11 @@ pub record PopovOutcome : Type 0 where
   pub v : List ℕ
 
 -- "the Popov form with its own U, V and rank and two counts"
-abbrev pub popovForm : Service
-popovForm = record {
+abbrev pub popov_form : Service
+popov_form = record {
   Call = WholeCall;
   Outcome = PopovOutcome;
-  table = λ c. matrixTable c.p c.n c.m c.d (lengths c) (reductionSizes c.n c.m c.d) c.a;
+  table = λ c. matrix_table c.p c.n c.m c.d (lengths c) (reduction_sizes c.n c.m c.d) c.a;
   kept = λ c. record { rank = 0; first = 0; second = 0; r = c.r; u = c.u; v = c.v };
   Done = λ c x. IsPopov c.p c.n c.m (c.d + 1) c.a x.r x.u x.v x.rank x.first x.second;
 }
@@ -82,11 +82,11 @@ pub record StepOutcome : Type 0 where
   pub r : List ℕ
 
 -- "one single step of it"
-abbrev pub singleStep : Service
-singleStep = record {
+abbrev pub single_step : Service
+single_step = record {
   Call = ShortCall;
   Outcome = StepOutcome;
-  table = λ c. matrixTable c.p c.n c.m c.d (shortLengths c) (stepSizes c.n c.m c.d) c.a;
+  table = λ c. matrix_table c.p c.n c.m c.d (short_lengths c) (step_sizes c.n c.m c.d) c.a;
   kept = λ c. record { count = 0; r = c.r };
   Done = λ c x. SteppedOnce c.p c.n c.m (c.d + 1) x.count c.a x.r;
 }
@@ -96,7 +96,7 @@ abbrev pub determinant : Service
 determinant = record {
   Call = ShortCall;
   Outcome = List ℕ;
-  table = λ c. determinantTable c.p c.n c.m c.d (shortLengths c) c.a;
+  table = λ c. determinant_table c.p c.n c.m c.d (short_lengths c) c.a;
   kept = λ c. c.r;
   Done = λ c x. IsDeterminant c.p c.n c.d c.a x;
 }

@@ -10,13 +10,13 @@ use Rattle.theory_reduction.specs.Process.{none, one}
 use Rattle.theory_reduction.specs.Rank.{chosen}
 use Rattle.theory_reduction.specs.Run.{advance-pair}
 use Rattle.theory_reduction.specs.Step.{Carried, begin}
-use Rattle.matrix_promises.specs.Held.{Held, matrixOf}
+use Rattle.matrix_promises.specs.Held.{Held, matrix_of}
 use Rattle.matrix_promises.specs.Layout.{by_rows}
 use Rattle.matrix_promises.specs.Reduced.{IsReducedAlone}
 use Rattle.matrix_promises.specs.SteppedOnce.{SteppedOnce}
 use Rattle.matrix_buffers.specs.Bounds.{Checked}
 use Rattle.matrix_pivots.specs.NextPair.{IsNextOf}
-use Rattle.matrix_pivots.specs.Pivot.{values_of, zeroRow, index_at, AllPivots}
+use Rattle.matrix_pivots.specs.Pivot.{values_of, zero_row, index_at, AllPivots}
 use Rattle.matrix_pivots.specs.declared.pivot.Pivot.{Pivot}
 use Rattle.matrix_pivots.specs.declared.next_pair.Next.TheVariants.{Rows}
 use Rattle.matrix_steps.specs.Subtraction.{IsLowered}
@@ -50,17 +50,17 @@ module _ {p reciprocal n m w : ℕ} {a : List ℕ} (input : Checked p reciprocal
   pub stepped-none : NoPair n m (values_of m w a) → SteppedOnce p n m w 0 a a
   stepped-none stuck = record {
     by = λ P some.
-        let t = begin (zp-field p P).ring (matrixOf (by_rows n m w) p some a) in
+        let t = begin (zp-field p P).ring (matrix_of (by_rows n m w) p some a) in
         record { t = t; stepped = none (at-end P columns t (first input some) stuck); held = first input some };
   }
 
   -- else it is made on the rows of the pair
   pub stepped-pair : {l k : ℕ} {pivots : List Pivot} {r : List ℕ} {x : Lowered} → AllPivots n m (values_of m w a) pivots
-      → IsNextOf n m (values_of m w a) (Rows l k) → IsLowered p m w l k (get_or pivots l zeroRow) (get_or pivots k zeroRow) a r x
+      → IsNextOf n m (values_of m w a) (Rows l k) → IsLowered p m w l k (get_or pivots l zero_row) (get_or pivots k zero_row) a r x
       → SteppedOnce p n m w 1 a r
   stepped-pair {l} {k} {r = r} all next lowered = record {
     by = λ P some.
-        let t = begin (zp-field p P).ring (matrixOf (by_rows n m w) p some a) in
+        let t = begin (zp-field p P).ring (matrix_of (by_rows n m w) p some a) in
         let rows = rows-held P columns t (first input some) next in
         record {
           t = advance-pair (zp-field p P) n m w t (pair_held P columns t (first input some) next);

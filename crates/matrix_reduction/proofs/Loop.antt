@@ -20,13 +20,13 @@ use Rattle.theory_reduction.specs.Process.{halt, more}
 use Rattle.theory_reduction.specs.Run.{advance-pair, Runs}
 use Rattle.theory_reduction.specs.Rank.{sign, chosen, rank}
 use Rattle.theory_reduction.proofs.Pair.{pair-rows, no-pair-same, pair_same}
-use Rattle.matrix_promises.specs.Held.{Held, matrixOf}
+use Rattle.matrix_promises.specs.Held.{Held, matrix_of}
 use Rattle.matrix_promises.specs.Layout.{by_rows}
-use Rattle.matrix_promises.proofs.Held.{held-matrixOf, held-coefficients}
+use Rattle.matrix_promises.proofs.Held.{held-matrix_of, held-coefficients}
 use Rattle.matrix_buffers.specs.Bounds.{Checked}
 use Rattle.matrix_buffers.proofs.Bounds.{matrix-few}
 use Rattle.matrix_pivots.specs.NextPair.{NextAsked, IsNextOf}
-use Rattle.matrix_pivots.specs.Pivot.{values_of, zeroRow, index_at, Pivots, AllPivots}
+use Rattle.matrix_pivots.specs.Pivot.{values_of, zero_row, index_at, Pivots, AllPivots}
 use Rattle.matrix_pivots.specs.declared.pivot.Pivot.{Pivot}
 use Rattle.matrix_pivots.specs.declared.next_pair.Next.TheVariants.{Rows}
 use Rattle.matrix_pivots.proofs.NextPair as Next
@@ -70,7 +70,7 @@ pub record Onward (p : ℕ) (P : Prime p) (some : 0 < p) (n m w : ℕ) (a r : Li
   pub t : Carried (Zp p)
   pub held : Held (by_rows n m w) p r t.R
   pub onward : (c : ℕ) (s : Carried (Zp p)) → Runs (zp-field p P) n m w c t s
-      → Runs (zp-field p P) n m w (count + c) (begin (zp-field p P).ring (matrixOf (by_rows n m w) p some a)) s
+      → Runs (zp-field p P) n m w (count + c) (begin (zp-field p P).ring (matrix_of (by_rows n m w) p some a)) s
   pub also : Also t
 
 -- what else is kept, whatever proof of primality is in hand
@@ -98,10 +98,10 @@ module _ {p reciprocal n m w : ℕ} {a : List ℕ} (input : Checked p reciprocal
   positive = omega (arith, prime.two)
 
   abbrev A : (some : 0 < p) → ℕ → Row (Zp p)
-  A some = matrixOf (by_rows n m w) p some a
+  A some = matrix_of (by_rows n m w) p some a
 
   pub first : (some : 0 < p) → Held (by_rows n m w) p a (A some)
-  first some = held-matrixOf (by_rows n m w) p some a input.size input.residues
+  first some = held-matrix_of (by_rows n m w) p some a input.size input.residues
 
   pub going_start : {Also : Kept p} {pivots : List Pivot}
       → ((P : Prime p) (some : 0 < p) → Also P some (begin (zp-field p P).ring (A some)))
@@ -145,10 +145,10 @@ module _ {p reciprocal n m w : ℕ} {a : List ℕ} (input : Checked p reciprocal
     -- a turn of the loop: rows l and k are to be reduced
     module _ {l k : ℕ} (next : IsNextOf n m (values_of m w r) (Rows l k)) where
       abbrev high : Pivot
-      high = get_or pivots l zeroRow
+      high = get_or pivots l zero_row
 
       abbrev low : Pivot
-      low = get_or pivots k zeroRow
+      low = get_or pivots k zero_row
 
       pub reducing : StepRows n m (values_of m w r) l k
       reducing = pair-rows next.0 next.1

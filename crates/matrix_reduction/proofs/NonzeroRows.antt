@@ -19,34 +19,34 @@ use Rattle.theory_reduction.proofs.Sign.{sign-most, sign_le}
 use Rattle.matrix_promises.specs.Reduced.{IsReduction}
 use Rattle.matrix_promises.specs.RowList.{mask_of, IsRowList}
 use Rattle.matrix_buffers.proofs.Bounds.{matrix-few}
-use Rattle.poly.specs.Polynomial.{usedPlaces}
+use Rattle.poly.specs.Polynomial.{used_places}
 use Rattle.matrix_pivots.specs.Pivot.{value_of, row_of, values_of}
 use Rattle.matrix_pivots.proofs.Search.{past-height, row-part}
 use Rattle.matrix_steps.proofs.Value.{value-held}
-use Rattle.matrix_reduction.specs.NonzeroRows.{bitWhere, ListAsked}
+use Rattle.matrix_reduction.specs.NonzeroRows.{bit_where, ListAsked}
 
 -- a row has a place in use where its value is not 0
 module _ (m w : ℕ) (row : List ℕ) (columns : 0 < m) (places : 0 < w) (size : length row ≡ m * w) where
-  in_use : 0 < usedPlaces row → 0 < value_of m w row
+  in_use : 0 < used_places row → 0 < value_of m w row
   in_use some = case-le 1 (value_of m w row) (λ h. h) (λ zero.
-      let x = usedPlaces row - 1 in
+      let x = used_places row - 1 in
       let last = last-is (length row) (λ i. get_or row i 0) in
       let column : x / w < m = (N.div-lt_iff_lt-mul places).1 (omega (arith, last.within)) in
       let low : height m (value_of m w row) ≤ 0 = height_bound m 0 (value_of m w row) (omega arith) in
       absurd (last.top some (ap (λ (y : ℕ). get_or row y 0) (sym (N.div-add-mod' x w))
       ∙ past-height m w row columns (x / w) (x % w) column (omega arith) (N.mod-lt x places))))
 
-  not-zero : 0 < value_of m w row → 0 < usedPlaces row
+  not-zero : 0 < value_of m w row → 0 < used_places row
   unfolding value_of
-  not-zero some = case-le 1 (usedPlaces row) (λ h. h) (λ none.
+  not-zero some = case-le 1 (used_places row) (λ h. h) (λ none.
       let v = value_of m w row - 1 in
       let last = last-is (w * m) (λ x. get_or row (x % m * w + x / m) 0) in
       let degree : v / m < w = (N.div-lt_iff_lt-mul columns).1 (omega (arith, last.within)) in
       absurd (last.top some ((last-is (length row) (λ i. get_or row i 0)).zeros _ (omega arith)
       (omega (arith, size, within (v % m) (v / m) m w (N.mod-lt v columns) degree)))))
 
-  used-sign : sign (usedPlaces row) ≡ sign (value_of m w row)
-  used-sign = omega (arith, sign_le (usedPlaces row) (value_of m w row) in_use, sign_le (value_of m w row) (usedPlaces row) not-zero)
+  used-sign : sign (used_places row) ≡ sign (value_of m w row)
+  used-sign = omega (arith, sign_le (used_places row) (value_of m w row) in_use, sign_le (value_of m w row) (used_places row) not-zero)
 
 -- where the loop stands: the rows before i are listed
 pub record Listing (n : ℕ) (z : ℕ → ℕ) (rows bit i : ℕ) : Type 0 where
@@ -70,10 +70,10 @@ module _ {n m w : ℕ} {r : List ℕ} (asked : ListAsked n m w r) {rows bit i : 
   bit-few = let few : i < 8 = omega (arith, rows-most) in omega (arith, at.bit_is, pow-lt few)
 
   -- row i comes to the list, or not
-  module _ {used x : ℕ} (used-is : used ≡ usedPlaces (take (i * (m * w) + m * w - i * (m * w)) (drop (i * (m * w)) r)))
-      (x-is : x ≡ bitWhere used bit) where
+  module _ {used x : ℕ} (used-is : used ≡ used_places (take (i * (m * w) + m * w - i * (m * w)) (drop (i * (m * w)) r)))
+      (x-is : x ≡ bit_where used bit) where
     sign-is : sign used ≡ sign (values_of m w r i)
-    sign-is = ap sign (used-is ∙ ap usedPlaces (row-part m w (i * (m * w)) i r refl))
+    sign-is = ap sign (used-is ∙ ap used_places (row-part m w (i * (m * w)) i r refl))
         ∙ used-sign m w (row_of m w r i) columns places (length_part (i * (m * w)) (m * w) r row_fits.0)
 
     pub entry-few : x ≤ bit

@@ -23,7 +23,7 @@ use Rattle.theory_reduction.specs.Rank.{chosen}
 use Rattle.theory_reduction.specs.Step.{Carried, advance}
 use Rattle.theory_reduction.specs.Narrow.{pivot-degree, spent-since, Narrow}
 use Rattle.theory_reduction.proofs.Degrees.{narrow_start}
-use Rattle.matrix_promises.specs.Held.{Held, matrixOf}
+use Rattle.matrix_promises.specs.Held.{Held, matrix_of}
 use Rattle.matrix_promises.specs.Holding.{Holding}
 use Rattle.matrix_promises.specs.Layout.{by_rows}
 use Rattle.matrix_promises.specs.Reduced.{IsReduction}
@@ -33,7 +33,7 @@ use Rattle.matrix_buffers.proofs.Bounds.{cell-few}
 use Rattle.matrix_buffers.proofs.Diagonal.{held-identity}
 use Rattle.matrix_rows.specs.Asked.{Short}
 use Rattle.matrix_pivots.specs.NextPair.{IsNextOf}
-use Rattle.matrix_pivots.specs.Pivot.{values_of, degreesOf, zeroRow, index_at, degreeAt, Pivots, AllPivots, leastDegree}
+use Rattle.matrix_pivots.specs.Pivot.{values_of, degrees_of, zero_row, index_at, degree_at, Pivots, AllPivots, least_degree}
 use Rattle.matrix_pivots.specs.declared.pivot.Pivot.{Pivot}
 use Rattle.matrix_pivots.specs.declared.next_pair.Next.TheVariants.{Rows}
 use Rattle.matrix_pivots.proofs.LeastDegree.{least-below}
@@ -54,7 +54,7 @@ use Rattle.matrix_reduction.proofs.Loop.{reducing, rows_fit, lower-asked, falls,
 pub record Transforms (p n m w : ℕ) (a u v : List ℕ) (P : Prime p) (some : 0 < p) (t : Carried (Zp p)) : Type 0 where
   pub U : Held (by_rows n n (n * w)) p u t.U
   pub V' : Held (by_rows n n w) p v t.V'
-  pub narrow : Narrow (zp-field p P) n m w (matrixOf (by_rows n m w) p some a) t
+  pub narrow : Narrow (zp-field p P) n m w (matrix_of (by_rows n m w) p some a) t
 
 -- what the step on U and V asks, once that on the matrix is made
 pub follow-asked : {p reciprocal n m w l k reach : ℕ} {high low : Pivot} {r u v r' : List ℕ} {x : Lowered}
@@ -72,7 +72,7 @@ module _ {p reciprocal n m w : ℕ} {a : List ℕ} (input : Checked p reciprocal
   K = zp-field p P
 
   abbrev A : ℕ → Row (Zp p)
-  A = matrixOf (by_rows n m w) p some a
+  A = matrix_of (by_rows n m w) p some a
 
   abbrev R : ℕ → Row (Zp p)
   R = at.t.R
@@ -86,7 +86,7 @@ module _ {p reciprocal n m w : ℕ} {a : List ℕ} (input : Checked p reciprocal
   module _ {pivots : List Pivot} (found : Pivots n m (values_of m w r) pivots) where
     -- after a step on rows l and k
     transforms-on : {l k : ℕ} {r' u' v' : List ℕ} {new : Pivot} → StepRows n m (values K m w R) l k
-        → Advanced p n m w l k (get_or pivots l zeroRow) (get_or pivots k zeroRow) r u v r' u' v' new
+        → Advanced p n m w l k (get_or pivots l zero_row) (get_or pivots k zero_row) r u v r' u' v' new
         → Transforms p n m w a u' v' P some (advance K m w l k at.t)
     transforms-on {l} {k} reducing d =
         let narrow = at.also.narrow in
@@ -97,51 +97,51 @@ module _ {p reciprocal n m w : ℕ} {a : List ℕ} (input : Checked p reciprocal
           narrow = move-narrow p P n m w columns bounded places holding narrow found l k reducing;
         }
 
-    column-short : (l : ℕ) → l < n → Short w (w + 1 - degreeAt pivots l) n (λ i. spot n w i l) v
+    column-short : (l : ℕ) → l < n → Short w (w + 1 - degree_at pivots l) n (λ i. spot n w i l) v
     column-short = v-short p P n m w A holding at.also.narrow columns places bounded found
 
     -- `spent` is what all degrees have lost since a
-    module _ (spent : ℕ) (lost : spent + total n (λ i. degreeAt pivots i - 1) ≡ total n (degreesOf m w a)) where
-      height-now : (i : ℕ) → i < n → degreeAt pivots i ≡ height m (value K m w (R i))
+    module _ (spent : ℕ) (lost : spent + total n (λ i. degree_at pivots i - 1) ≡ total n (degrees_of m w a)) where
+      height-now : (i : ℕ) → i < n → degree_at pivots i ≡ height m (value K m w (R i))
       height-now = height-is p P n m w columns at.held found
 
-      before : (i : ℕ) → i < n → degreesOf m w a i ≡ pivot-degree K n m w A i
+      before : (i : ℕ) → i < n → degrees_of m w a i ≡ pivot-degree K n m w A i
       before i li = ap (λ (x : ℕ). height m x - 1) (sym (value-held p P n m w (first input some) columns i li))
 
-      now : (i : ℕ) → i < n → degreeAt pivots i - 1 ≡ pivot-degree K n m w R i
+      now : (i : ℕ) → i < n → degree_at pivots i - 1 ≡ pivot-degree K n m w R i
       now i li = ap (λ (x : ℕ). x - 1) (height-now i li)
 
       spent-is : spent ≡ spent-since K n m w A at.t
       spent-is = omega (arith, lost, total-same n _ _ before, total-same n _ _ now)
 
       -- U has room for a row so shifted that it is as high as row l
-      row_room : (l : ℕ) → l < n → degreeAt pivots l + spent ≤ n * w
+      row_room : (l : ℕ) → l < n → degree_at pivots l + spent ≤ n * w
       row_room l ll = omega (arith, spent-is, height-now l ll, spent_fits p P n m w A holding at.also.narrow places bounded l ll)
 
       cut : (h s d reach least : ℕ) → 0 < h → least ≤ d → reach + least ≡ h + s → suc (h - 1 + s) - d ≤ reach
       cut h s d reach least some le is = omega arith
 
       -- where row k of the result is not zero, row k of U has no term from its height and `spent` on, less what every row of a has
-      row-short : (k reach least : ℕ) → k < n → 0 < degreeAt pivots k → ((i : ℕ) → i < n → least ≤ degreesOf m w a i)
-          → reach + least ≡ degreeAt pivots k + spent → Short (n * w) reach n (spot n (n * w) k) u
+      row-short : (k reach least : ℕ) → k < n → 0 < degree_at pivots k → ((i : ℕ) → i < n → least ≤ degrees_of m w a i)
+          → reach + least ≡ degree_at pivots k + spent → Short (n * w) reach n (spot n (n * w) k) u
       row-short k reach least lk nonzero all reach-is = u-short p P n m w A holding at.also.narrow k reach lk (λ j lj.
           rw (← spent-is, ← now k lk, ← before j lj)
-          (cut (degreeAt pivots k) spent (degreesOf m w a j) reach least nonzero (all j lj) reach-is))
+          (cut (degree_at pivots k) spent (degrees_of m w a j) reach least nonzero (all j lj) reach-is))
 
 -- at the loop's head: `least` is no more than any pivot degree of a, and what a row has lost of it has been spent
 pub record Running (p n m w : ℕ) (a u₀ v₀ r u v : List ℕ) (pivots : List Pivot) (least count spent : ℕ) : Type 0 where
   pub u_same : length u ≡ length u₀
   pub v-same : length v ≡ length v₀
   pub going : Going p n m w (Transforms p n m w a u v) a r pivots count
-  pub lost : spent + total n (λ i. degreeAt pivots i - 1) ≡ total n (degreesOf m w a)
-  pub least-is : (i : ℕ) → i < n → least ≤ degreesOf m w a i
-  pub above : (i : ℕ) → i < n → least ≤ degreeAt pivots i - 1 + spent
+  pub lost : spent + total n (λ i. degree_at pivots i - 1) ≡ total n (degrees_of m w a)
+  pub least-is : (i : ℕ) → i < n → least ≤ degrees_of m w a i
+  pub above : (i : ℕ) → i < n → least ≤ degree_at pivots i - 1 + spent
 
 module _ {p reciprocal n m w : ℕ} {a u₀ v₀ : List ℕ} (asked : StartAsked p reciprocal n m w a u₀ v₀) where
   open asked use {input}
   open input use {prime, bounds}
 
-  pub running-start : {pivots : List Pivot} {least : ℕ} → AllPivots n m (values_of m w a) pivots → least ≡ leastDegree w n pivots
+  pub running-start : {pivots : List Pivot} {least : ℕ} → AllPivots n m (values_of m w a) pivots → least ≡ least_degree w n pivots
       → Running p n m w a u₀ v₀ a u₀ v₀ pivots least 0 0
   running-start {pivots} {least} all is = record {
     u_same = refl;
@@ -149,14 +149,14 @@ module _ {p reciprocal n m w : ℕ} {a u₀ v₀ : List ℕ} (asked : StartAsked
     going = going_start input (λ P some. record {
       U = held-identity p P n (n * w) (N.mul-pos bounds.rows bounds.places) asked.u-one;
       V' = held-identity p P n w bounds.places asked.v-one;
-      narrow = narrow_start (zp-field p P) n m w (matrixOf (by_rows n m w) p some a);
+      narrow = narrow_start (zp-field p P) n m w (matrix_of (by_rows n m w) p some a);
     }) all;
-    lost = omega (arith, total-same n (λ i. degreeAt pivots i - 1) (degreesOf m w a) degrees);
+    lost = omega (arith, total-same n (λ i. degree_at pivots i - 1) (degrees_of m w a) degrees);
     least-is = λ i l. omega (arith, is, least-below w n pivots i l, degrees i l);
     above = λ i l. omega (arith, is, least-below w n pivots i l);
   }
     where
-      degrees : (i : ℕ) → i < n → degreeAt pivots i - 1 ≡ degreesOf m w a i
+      degrees : (i : ℕ) → i < n → degree_at pivots i - 1 ≡ degrees_of m w a i
       degrees i l = ap (λ (h : ℕ). h - 1) (all.pivots-are.row i l).degree-is
 
   module _ {r u v : List ℕ} {pivots : List Pivot} {least count spent : ℕ}
@@ -176,10 +176,10 @@ module _ {p reciprocal n m w : ℕ} {a u₀ v₀ : List ℕ} (asked : StartAsked
     -- a turn of the loop: rows l and k are to be reduced
     module _ {l k : ℕ} (next : IsNextOf n m (values_of m w r) (Rows l k)) where
       abbrev high : Pivot
-      high = get_or pivots l zeroRow
+      high = get_or pivots l zero_row
 
       abbrev low : Pivot
-      low = get_or pivots k zeroRow
+      low = get_or pivots k zero_row
 
       rows : StepRows n m (values_of m w r) l k
       rows = reducing input going next
@@ -228,14 +228,14 @@ module _ {p reciprocal n m w : ℕ} {a u₀ v₀ : List ℕ} (asked : StartAsked
         abbrev pivots' : List Pivot
         pivots' = set pivots l new
 
-        here : degreeAt pivots' l ≡ new.degree.0
-        here = ap (λ (x : Pivot). x.degree.0) (get_or-set_same pivots l new zeroRow (omega (arith, going.room, rows_fit input going next)))
+        here : degree_at pivots' l ≡ new.degree.0
+        here = ap (λ (x : Pivot). x.degree.0) (get_or-set_same pivots l new zero_row (omega (arith, going.room, rows_fit input going next)))
 
-        others : (i : ℕ) → i ≢ l → degreeAt pivots' i ≡ degreeAt pivots i
-        others i ne = ap (λ (x : Pivot). x.degree.0) (get_or-set_other pivots l i new zeroRow ne)
+        others : (i : ℕ) → i ≢ l → degree_at pivots' i ≡ degree_at pivots i
+        others i ne = ap (λ (x : Pivot). x.degree.0) (get_or-set_other pivots l i new zero_row ne)
 
-        change : total n (λ i. degreeAt pivots' i - 1) + (high.degree.0 - 1) ≡ total n (λ i. degreeAt pivots i - 1) + (new.degree.0 - 1)
-        change = rw here at (total-change n l (λ i. degreeAt pivots' i - 1) (λ i. degreeAt pivots i - 1) rows.l-fits
+        change : total n (λ i. degree_at pivots' i - 1) + (high.degree.0 - 1) ≡ total n (λ i. degree_at pivots i - 1) + (new.degree.0 - 1)
+        change = rw here at (total-change n l (λ i. degree_at pivots' i - 1) (λ i. degree_at pivots i - 1) rows.l-fits
             (λ i li ne. ap (λ (h : ℕ). h - 1) (others i ne)))
 
         pub running-on : {before after : ℕ} → before ≡ high.degree.0 - 1 → after ≡ new.degree.0 - 1

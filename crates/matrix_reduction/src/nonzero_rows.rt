@@ -2,13 +2,13 @@
 ghost use Rattle.std.specs.Prelude.{◌≡◌};
 ghost use Rattle.matrix_promises.specs.RowList.{mask_of};
 ghost use Rattle.matrix_pivots.specs.Pivot.{values_of};
-ghost use Rattle.matrix_reduction.specs.NonzeroRows.{ListAsked, bitWhere};
+ghost use Rattle.matrix_reduction.specs.NonzeroRows.{ListAsked, bit_where};
 
 use poly::polynomial;
 
 // The bit, where a row has a place in use.
 fn bit_if_used(used: usize, bit: usize) -> usize
-    ensures { result ≡ bitWhere used bit }
+    ensures { result ≡ bit_where used bit }
 {
     if used == 0 { 0 } else { bit }
 }

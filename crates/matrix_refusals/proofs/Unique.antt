@@ -3,10 +3,10 @@ use mathlib.Core.Path.{◌≡◌, refl, sym, ap, ◌∙◌}
 use mathlib.Core.List.{List, [], ◌∷◌}
 use Prim.Native.Nat.{ℕ}
 use lib.ListN.{get_or}
-use Rattle.matrix_refusals.specs.Number.{number_of, place_of, checkNumber, checkPlace}
+use Rattle.matrix_refusals.specs.Number.{number_of, place_of, check_number, check_place}
 use Rattle.matrix_promises.specs.Answering.{Rule}
 use Rattle.matrix_refusals.specs.Number.{Verdict}
-use Rattle.matrix_promises.specs.Refused.{numberRules, coefficientRule, matrixTable, determinantTable}
+use Rattle.matrix_promises.specs.Refused.{number_rules, coefficient_rule, matrix_table, determinant_table}
 use Rattle.matrix_refusals.specs.declared.Refusal.{Refusal}
 use Rattle.matrix_refusals.specs.declared.Refusal.TheVariants.{Modulus, Shape, Degree, Square, Length, Coefficient}
 use Rattle.matrix_refusals.specs.declared.Check.{Check}
@@ -14,14 +14,14 @@ use Rattle.matrix_refusals.specs.declared.Check.TheVariants.{Fine, Refused}
 use Rattle.matrix_promises.proofs.Tables.{Decides, decides, high_one, with-numbers, matrix-decided, determinant-decided}
 
 -- the answer that has a number, a place and an outcome: done where the number is 0, else refused
-abbrev answerAt : {Answer Outcome : Type 0} → (Refusal → Answer) → (Outcome → Answer) → ℕ × ℕ × Outcome → Answer
-answerAt refused done (number, place, outcome) = get_or
+abbrev answer_at : {Answer Outcome : Type 0} → (Refusal → Answer) → (Outcome → Answer) → ℕ × ℕ × Outcome → Answer
+answer_at refused done (number, place, outcome) = get_or
     (done outcome ∷ refused Modulus ∷ refused Shape ∷ refused Degree ∷ refused Square ∷ refused (Length place) ∷ refused (Coefficient place) ∷ [])
     number (done outcome)
 
 -- x is the answer that its numbers say
 pub record Said {Answer Outcome : Type 0} (refused : Refusal → Answer) (done : Outcome → Answer) (numbers : ℕ × ℕ × Outcome) (x : Answer) : Type 0 where
-  pub is : answerAt refused done numbers ≡ x
+  pub is : answer_at refused done numbers ≡ x
 
 -- so is a refusal, by its number and its place
 pub said-refused : {Answer Outcome : Type 0} {refused : Refusal → Answer} {done : Outcome → Answer} {outcome : Outcome} (x : Refusal)
@@ -36,7 +36,7 @@ said-refused (Coefficient i) = record { is = refl }
 -- so an answer is determined by its numbers
 pub said-unique : {Answer Outcome : Type 0} {refused : Refusal → Answer} {done : Outcome → Answer} {s t : ℕ × ℕ × Outcome} {x y : Answer}
     → Said refused done s x → Said refused done t y → s ≡ t → x ≡ y
-said-unique {refused = refused} {done} f g same = sym f.is ∙ ap (answerAt refused done) same ∙ g.is
+said-unique {refused = refused} {done} f g same = sym f.is ∙ ap (answer_at refused done) same ∙ g.is
 
 -- so is a refusal
 pub refusal-unique : (x y : Refusal) → number_of x ≡ number_of y → place_of x ≡ place_of y → x ≡ y
@@ -44,7 +44,7 @@ refusal-unique x y numbers places = said-unique {Outcome = Unit} {refused = λ z
     (said-refused x) (said-refused y) (λ i. (numbers i, places i, tt))
 
 -- what the checks say is an answer too
-check-said : (x : Check) → Said {Outcome = Unit} Refused (λ outcome. Fine) (checkNumber x, checkPlace x, tt) x
+check-said : (x : Check) → Said {Outcome = Unit} Refused (λ outcome. Fine) (check_number x, check_place x, tt) x
 check-said Fine = record { is = refl }
 check-said (Refused x) = said-refused x
 
@@ -56,20 +56,20 @@ verdict-unique table decided x y f g =
 -- ## The checks: two answers that the promise allows are equal
 
 -- of `check_numbers`
-pub numbers-checked-unique : (p n m d : ℕ) (x y : Check) → Verdict (numberRules p n m d []) x → Verdict (numberRules p n m d []) y → x ≡ y
-numbers-checked-unique p n m d = verdict-unique (numberRules p n m d []) (with-numbers [] tt)
+pub numbers-checked-unique : (p n m d : ℕ) (x y : Check) → Verdict (number_rules p n m d []) x → Verdict (number_rules p n m d []) y → x ≡ y
+numbers-checked-unique p n m d = verdict-unique (number_rules p n m d []) (with-numbers [] tt)
 
 -- of `check_coefficients`
-pub coefficients-checked-unique : (p : ℕ) (a : List ℕ) (x y : Check) → Verdict (coefficientRule p a ∷ []) x
-    → Verdict (coefficientRule p a ∷ []) y → x ≡ y
-coefficients-checked-unique p a = verdict-unique (coefficientRule p a ∷ []) (decides (coefficientRule p a ∷ []) (high_one p a, tt))
+pub coefficients-checked-unique : (p : ℕ) (a : List ℕ) (x y : Check) → Verdict (coefficient_rule p a ∷ []) x
+    → Verdict (coefficient_rule p a ∷ []) y → x ≡ y
+coefficients-checked-unique p a = verdict-unique (coefficient_rule p a ∷ []) (decides (coefficient_rule p a ∷ []) (high_one p a, tt))
 
 -- of `check_step` and `check_reduction`: `given` and `wanted` are the lengths of their buffers
-pub matrix-checked-unique : (p n m d : ℕ) (given wanted a : List ℕ) (x y : Check) → Verdict (matrixTable p n m d given wanted a) x
-    → Verdict (matrixTable p n m d given wanted a) y → x ≡ y
-matrix-checked-unique p n m d given wanted a = verdict-unique (matrixTable p n m d given wanted a) matrix-decided
+pub matrix-checked-unique : (p n m d : ℕ) (given wanted a : List ℕ) (x y : Check) → Verdict (matrix_table p n m d given wanted a) x
+    → Verdict (matrix_table p n m d given wanted a) y → x ≡ y
+matrix-checked-unique p n m d given wanted a = verdict-unique (matrix_table p n m d given wanted a) matrix-decided
 
 -- of `check_determinant`
-pub determinant-checked-unique : (p n m d : ℕ) (given a : List ℕ) (x y : Check) → Verdict (determinantTable p n m d given a) x
-    → Verdict (determinantTable p n m d given a) y → x ≡ y
-determinant-checked-unique p n m d given a = verdict-unique (determinantTable p n m d given a) determinant-decided
+pub determinant-checked-unique : (p n m d : ℕ) (given a : List ℕ) (x y : Check) → Verdict (determinant_table p n m d given a) x
+    → Verdict (determinant_table p n m d given a) y → x ≡ y
+determinant-checked-unique p n m d given a = verdict-unique (determinant_table p n m d given a) determinant-decided

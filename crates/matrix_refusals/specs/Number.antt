@@ -22,14 +22,14 @@ place_of Square = 0
 place_of (Length k) = k
 place_of (Coefficient i) = i
 
-abbrev pub checkNumber : Check → ℕ
-checkNumber Fine = 0
-checkNumber (Refused x) = number_of x
+abbrev pub check_number : Check → ℕ
+check_number Fine = 0
+check_number (Refused x) = number_of x
 
-abbrev pub checkPlace : Check → ℕ
-checkPlace Fine = 0
-checkPlace (Refused x) = place_of x
+abbrev pub check_place : Check → ℕ
+check_place Fine = 0
+check_place (Refused x) = place_of x
 
 -- what checks say, by the rules that they look at
 abbrev pub Verdict : (table : List Rule) → Check → Type 0
-Verdict table c = Told table (checkNumber c) (checkPlace c)
+Verdict table c = Told table (check_number c) (check_place c)

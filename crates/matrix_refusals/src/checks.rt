@@ -2,8 +2,8 @@
 // refused call holds what it held.
 ghost use Rattle.std.specs.Prelude.{◌≡◌, true, ◌↔◌, ◌+◌, ◌*◌, ◌≤◌, [], ◌∷◌, length};
 ghost use Rattle.matrix_refusals.specs.Number.{Verdict};
-ghost use Rattle.matrix_promises.specs.Refused.{FirstHigh, reductionSizes, stepSizes};
-ghost use Rattle.matrix_promises.specs.Refused.{numberRules, lengthRule, coefficientRule, matrixTable, determinantTable};
+ghost use Rattle.matrix_promises.specs.Refused.{FirstHigh, reduction_sizes, step_sizes};
+ghost use Rattle.matrix_promises.specs.Refused.{number_rules, length_rule, coefficient_rule, matrix_table, determinant_table};
 
 use crate::{Check, Refusal};
 use poly::Modulus;
@@ -30,7 +30,7 @@ fn wide(x: u16) -> u32
 
 // Refusals 1 to 3.
 pub fn check_numbers(p: u32, n: usize, m: usize, d: usize) -> Check
-    ensures { Verdict (numberRules p n m d []) result }
+    ensures { Verdict (number_rules p n m d []) result }
 {
     if !Modulus::accepts(p) {
         return Check::Refused(Refusal::Modulus);
@@ -59,7 +59,7 @@ fn one_to_eight(n: usize) -> bool
 
 // Refusal 5 for the two buffers that every service has: input and result have a and r places, and should have `places` and `result`.
 fn check_lengths(a: usize, places: usize, r: usize, res: usize) -> Check
-    ensures { Verdict (lengthRule (a ∷ r ∷ []) (places ∷ res ∷ []) ∷ []) result }
+    ensures { Verdict (length_rule (a ∷ r ∷ []) (places ∷ res ∷ []) ∷ []) result }
 {
     if a != places {
         return Check::Refused(Refusal::Length(1));
@@ -72,7 +72,7 @@ fn check_lengths(a: usize, places: usize, r: usize, res: usize) -> Check
 
 // Refusals 1 to 3, and 5 for these two buffers, where the result is a matrix.
 fn check_matrix(p: u32, n: usize, m: usize, d: usize, a: usize, r: usize) -> Check
-    ensures { Verdict (numberRules p n m d (lengthRule (a ∷ r ∷ []) (stepSizes n m d) ∷ [])) result }
+    ensures { Verdict (number_rules p n m d (length_rule (a ∷ r ∷ []) (step_sizes n m d) ∷ [])) result }
 {
     if let Check::Refused(x) = check_numbers(p, n, m, d) {
         return Check::Refused(x);
@@ -83,7 +83,7 @@ fn check_matrix(p: u32, n: usize, m: usize, d: usize, a: usize, r: usize) -> Che
 
 // Refusal 6.
 pub fn check_coefficients(a: &[u16], p: u32) -> Check
-    ensures { Verdict (coefficientRule p a.now ∷ []) result }
+    ensures { Verdict (coefficient_rule p a.now ∷ []) result }
 {
     let i = first_high(a, p);
     if i < a.len() {
@@ -94,7 +94,7 @@ pub fn check_coefficients(a: &[u16], p: u32) -> Check
 
 // The checks of the single step, whose result has r places.
 pub fn check_step(p: u32, n: usize, m: usize, d: usize, a: &[u16], r: usize) -> Check
-    ensures { Verdict (matrixTable p n m d (length a.now ∷ r ∷ []) (stepSizes n m d) a.now) result }
+    ensures { Verdict (matrix_table p n m d (length a.now ∷ r ∷ []) (step_sizes n m d) a.now) result }
 {
     if let Check::Refused(x) = check_matrix(p, n, m, d, a.len(), r) {
         return Check::Refused(x);
@@ -113,7 +113,7 @@ pub fn check_reduction(
     u: usize,
     v: usize,
 ) -> Check
-    ensures { Verdict (matrixTable p n m d (length a.now ∷ r ∷ u ∷ v ∷ []) (reductionSizes n m d) a.now) result }
+    ensures { Verdict (matrix_table p n m d (length a.now ∷ r ∷ u ∷ v ∷ []) (reduction_sizes n m d) a.now) result }
 {
     if let Check::Refused(x) = check_matrix(p, n, m, d, a.len(), r) {
         return Check::Refused(x);
@@ -130,7 +130,7 @@ pub fn check_reduction(
 
 // The checks of the determinant, whose result has r places.
 pub fn check_determinant(p: u32, n: usize, m: usize, d: usize, a: &[u16], r: usize) -> Check
-    ensures { Verdict (determinantTable p n m d (length a.now ∷ r ∷ []) a.now) result }
+    ensures { Verdict (determinant_table p n m d (length a.now ∷ r ∷ []) a.now) result }
 {
     if let Check::Refused(x) = check_numbers(p, n, m, d) {
         return Check::Refused(x);

@@ -10,8 +10,8 @@ use borrow.Author.Tests.{le-leb, lt-leb}
 use Rattle.theory_algebra.proofs.Cases.{case-le}
 use Rattle.theory_lists.specs.Part.{part}
 use Rattle.theory_lists.proofs.Part.{length_part, get_d_part}
-use Rattle.poly.specs.Polynomial.{usedPlaces}
-use Rattle.poly.specs.arithmetic.Operations.{plusTerm, TermAsked}
+use Rattle.poly.specs.Polynomial.{used_places}
+use Rattle.poly.specs.arithmetic.Operations.{plus_term, TermAsked}
 use Rattle.poly.proofs.Ending.{ends-height}
 use Rattle.matrix_buffers.specs.Written.{CellsWritten}
 use Rattle.matrix_buffers.specs.Added.{CellAdded}
@@ -20,8 +20,8 @@ use Rattle.matrix_rows.specs.Asked.{CellPair}
 
 -- one place is written, as a cell of one place
 term-written : (p c y i : ℕ) (a : List ℕ) → i < length a
-    → CellsWritten 1 1 (λ _ t. i + t) (λ _ _. (get_or a i 0 + c * y) % p) a (plusTerm p c y i a)
-unfolding plusTerm
+    → CellsWritten 1 1 (λ _ t. i + t) (λ _ _. (get_or a i 0 + c * y) % p) a (plus_term p c y i a)
+unfolding plus_term
 term-written p c y i a inside = record {
   size = length-set a i _;
   written = λ _ t _ lt. let zero : t ≡ 0 = omega arith in rw (zero, add-zero) (get_or-set_same a i _ 0 inside);
@@ -35,8 +35,8 @@ Adding p c e to from n b₀ b i =
 
 -- n of the lowest `top` places of the cell at `from` are in use
 module _ (p reciprocal c e w top to from n : ℕ) (b₀ : List ℕ) (pre : CellPair p reciprocal c e w top to from b₀)
-    (n-is : n ≡ usedPlaces (take (from + top - from) (drop from b₀))) where
-  used-is : n ≡ usedPlaces (part from top b₀)
+    (n-is : n ≡ used_places (take (from + top - from) (drop from b₀))) where
+  used-is : n ≡ used_places (part from top b₀)
   used-is = rw (add-sub_cancel_left from top) at n-is
 
   read_fits : from + top ≤ length b₀
@@ -71,7 +71,7 @@ module _ (p reciprocal c e w top to from n : ℕ) (b₀ : List ℕ) (pre : CellP
       inside = omega (arith, length_part to w b fits, few);
     })
 
-    pub term-turn : (l : List ℕ) → l ≡ plusTerm p c y (e + i) (take (to + w - to) (drop to b))
+    pub term-turn : (l : List ℕ) → l ≡ plus_term p c y (e + i) (take (to + w - to) (drop to b))
         → Adding p c e to from n b₀ (take to b ++ (l ++ drop (to + w - to) (drop to b))) (i + 1)
     term-turn l l-is =
         let kept : get_or (part to w b) (e + i) 0 ≡ get_or b₀ (to + (e + i)) 0 =

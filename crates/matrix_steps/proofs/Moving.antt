@@ -35,10 +35,10 @@ use Rattle.theory_reduction.proofs.Pivot.{value-bound, value-lead}
 use Rattle.theory_reduction.proofs.Lowering.{Lowered as Lowering, lowered, value-le}
 use Rattle.theory_reduction.proofs.Degrees.{narrow_step, u-fits, v-degrees}
 use Rattle.theory_reduction.specs.Narrow.{Narrow}
-use Rattle.matrix_pivots.specs.Pivot.{values_of, zeroRow, index_at, degreeAt, Pivots}
+use Rattle.matrix_pivots.specs.Pivot.{values_of, zero_row, index_at, degree_at, Pivots}
 use Rattle.matrix_pivots.specs.declared.pivot.Pivot.{Pivot}
 use Rattle.matrix_promises.specs.Holding.{Holding}
-use Rattle.matrix_steps.specs.multiple.Factor.{coefficientAt, leadingAt, Divided, Factor}
+use Rattle.matrix_steps.specs.multiple.Factor.{coefficient_at, leading_at, Divided, Factor}
 use Rattle.matrix_steps.specs.Subtraction.{IsLowered, Followed}
 use Rattle.matrix_steps.specs.declared.Lowered.{Lowered}
 use Rattle.matrix_steps.proofs.Value.{value-held}
@@ -99,24 +99,24 @@ module _ (p : ℕ) (P : Prime p) where
       bounded : AllBounded K.ring n m w M
       bounded = held-bounded (by_rows n m w) p P h
 
-      pub height-is : (i : ℕ) → i < n → degreeAt pivots i ≡ height m (value K m w (M i))
+      pub height-is : (i : ℕ) → i < n → degree_at pivots i ≡ height m (value K m w (M i))
       height-is i li = (found.row i li).degree-is ∙ ap (height m) (sym (value-held p P n m w h columns i li))
 
       pub column-is : (i : ℕ) → i < n → index_at pivots i - 1 ≡ (pivot m (value K m w (M i))).col
       column-is i li =
           ap (λ (x : ℕ). x - 1) ((found.row i li).index_is ∙ ap (index m) (sym (value-held p P n m w h columns i li))) ∙ index-less m (value K m w (M i))
 
-      pub degree-is : (i : ℕ) → i < n → degreeAt pivots i - 1 ≡ (pivot m (value K m w (M i))).deg
+      pub degree-is : (i : ℕ) → i < n → degree_at pivots i - 1 ≡ (pivot m (value K m w (M i))).deg
       degree-is i li = ap (λ (x : ℕ). x - 1) (height-is i li) ∙ height-less m (value K m w (M i))
 
       -- the coefficient of row k at x^e times the leading term of row i, which is not zero
       pub coefficient-is : (k i e : ℕ) → k < n → i < n → 0 < value K m w (M i) → e + (pivot m (value K m w (M i))).deg < w
-          → (coef (M k) (up e (pivot m (value K m w (M i))))).val ≡ coefficientAt m w r k (index_at pivots i) (degreeAt pivots i + e)
+          → (coef (M k) (up e (pivot m (value K m w (M i))))).val ≡ coefficient_at m w r k (index_at pivots i) (degree_at pivots i + e)
       coefficient-is k i e lk li some fits =
-          let degree : degreeAt pivots i + e - 1 ≡ e + (pivot m (value K m w (M i))).deg = omega (arith, height-is i li, height-some m _ some) in
+          let degree : degree_at pivots i + e - 1 ≡ e + (pivot m (value K m w (M i))).deg = omega (arith, height-is i li, height-some m _ some) in
           sym (h.at k _ _ lk (N.mod-lt _ columns) fits) ∙ sym (ap₂ (λ (x y : ℕ). get_or r (spot m w k x y) 0) (column-is i li) degree)
 
-      pub leading-is : (i : ℕ) → i < n → 0 < value K m w (M i) → (leading K m w (M i)).val ≡ leadingAt m w r i (get_or pivots i zeroRow)
+      pub leading-is : (i : ℕ) → i < n → 0 < value K m w (M i) → (leading K m w (M i)).val ≡ leading_at m w r i (get_or pivots i zero_row)
       leading-is i li some =
           let v = value K m w (M i) in
           let bound = height_bound m w v (value-bound K m w (M i) (bounded i li)) in
@@ -130,13 +130,13 @@ module _ (p : ℕ) (P : Prime p) where
         k-nonzero : leading K m w (M k) ≢ K.ring.𝟘
         k-nonzero = (value-lead K m w (M k) (bounded k x.k-fits) (clash-second x.clash)).top
 
-        factor-is : {e c f : ℕ} → Factor p m w l k (get_or pivots l zeroRow) (get_or pivots k zeroRow) r e c f
+        factor-is : {e c f : ℕ} → Factor p m w l k (get_or pivots l zero_row) (get_or pivots k zero_row) r e c f
             → Divided p (leading K m w (M l)).val (leading K m w (M k)).val (height m (value K m w (M l)) - height m (value K m w (M k))) e c f
         factor-is g = rw (leading-is l x.l-fits (clash-first x.clash), leading-is k x.k-fits (clash-second x.clash))
             (rw (← height-is l x.l-fits, ← height-is k x.k-fits) g)
 
         -- another matrix that follows, where nothing falls outside
-        pub step-followed : {e c f : ℕ} → Factor p m w l k (get_or pivots l zeroRow) (get_or pivots k zeroRow) r e c f
+        pub step-followed : {e c f : ℕ} → Factor p m w l k (get_or pivots l zero_row) (get_or pivots k zero_row) r e c f
             → (m' w' : ℕ) {s s' : List ℕ} {N' : ℕ → Row (Zp p)} → Held (by_rows n m' w') p s N' → RowAdded p m' w' f e l k s s'
             → AllBounded K.ring n m' w' (subtract K.ring l k (factor K m w (M l) (M k)) N')
             → Held (by_rows n m' w') p s' (subtract K.ring l k (factor K m w (M l) (M k)) N')
@@ -144,7 +144,7 @@ module _ (p : ℕ) (P : Prime p) where
         step-followed g m' w' = row_moved _ _ k-nonzero (factor-is g) n m' w' l k x.l-fits x.k-fits
 
         -- the matrix itself
-        module _ {r' : List ℕ} {y : Lowered} (lowered : IsLowered p m w l k (get_or pivots l zeroRow) (get_or pivots k zeroRow) r r' y) where
+        module _ {r' : List ℕ} {y : Lowered} (lowered : IsLowered p m w l k (get_or pivots l zero_row) (get_or pivots k zero_row) r r' y) where
           pub step-held : Held (by_rows n m w) p r' (reduce-row K m w l k M)
           step-held = step-followed lowered.factor m w h lowered.r-move lowering.bounded
 
@@ -167,7 +167,7 @@ module _ (p : ℕ) (P : Prime p) where
       pub move-narrow : Narrow K n m w A (advance K m w l k t)
       move-narrow = narrow_step K n m w A t l k (held-bounded (by_rows n m w) p P h.R) move-lowers narrow
 
-      pub move-holding : {r' u' v' : List ℕ} {y : Lowered} → IsLowered p m w l k (get_or pivots l zeroRow) (get_or pivots k zeroRow) r r' y
+      pub move-holding : {r' u' v' : List ℕ} {y : Lowered} → IsLowered p m w l k (get_or pivots l zero_row) (get_or pivots k zero_row) r r' y
           → Followed p n w l k y.multiple.exponent y.multiple.factor.0 y.multiple.negated.0 u v u' v'
           → Holding p n m w r' u' v' (advance K m w l k t)
       unfolding factor

@@ -19,12 +19,12 @@ use Rattle.matrix_rows.specs.Asked.{Short}
 use Rattle.theory_reduction.specs.Pivot.{pivot, height}
 use Rattle.theory_reduction.specs.Pair.{StepRows}
 use Rattle.theory_reduction.proofs.Index.{index-some, height-some, height_bound, clash-first, clash-second}
-use Rattle.matrix_pivots.specs.Pivot.{value_of, row_of, values_of, zeroRow, index_at, degreeAt, Pivots}
+use Rattle.matrix_pivots.specs.Pivot.{value_of, row_of, values_of, zero_row, index_at, degree_at, Pivots}
 use Rattle.matrix_pivots.specs.declared.pivot.Pivot.{Pivot}
 use Rattle.theory_lists.proofs.Grid.{line-end, within}
 use Rattle.matrix_pivots.proofs.Search.{past-height}
 use Rattle.matrix_pivots.proofs.AllPivots.{pivots-set}
-use Rattle.matrix_steps.specs.multiple.Factor.{leadingAt}
+use Rattle.matrix_steps.specs.multiple.Factor.{leading_at}
 use Rattle.matrix_steps.specs.multiple.Asked.{CoefficientAsked, PivotAsked}
 use Rattle.matrix_steps.specs.Asked.{LowerAsked}
 use Rattle.matrix_steps.specs.Subtraction.{IsLowered}
@@ -65,7 +65,7 @@ module _ (n m w : ℕ) (columns : 0 < m) (r : List ℕ) (size : length r ≡ n *
       unfolding v
       column-is = (found.row i li).index_is ∙ index-some m _ some
 
-      degree-is : degreeAt pivots i ≡ suc (pivot m v).deg
+      degree-is : degree_at pivots i ≡ suc (pivot m v).deg
       unfolding v
       degree-is = (found.row i li).degree-is ∙ height-some m _ some
 
@@ -76,7 +76,7 @@ module _ (n m w : ℕ) (columns : 0 < m) (r : List ℕ) (size : length r ≡ n *
       unfolding v
       degree-fits = (N.div-lt_iff_lt-mul columns).1 (omega (arith, values-most m w r i))
 
-      pub leading-asked : CoefficientAsked m w i (index_at pivots i) (degreeAt pivots i) r
+      pub leading-asked : CoefficientAsked m w i (index_at pivots i) (degree_at pivots i) r
       leading-asked = record {
         row = row_fits i li;
         column = omega (arith, column-is);
@@ -86,24 +86,24 @@ module _ (n m w : ℕ) (columns : 0 < m) (r : List ℕ) (size : length r ≡ n *
       }
 
       -- its leading coefficient is not 0
-      lead : leadingAt m w r i (get_or pivots i zeroRow) ≢ 0
+      lead : leading_at m w r i (get_or pivots i zero_row) ≢ 0
       unfolding value_of v
       lead z =
           let col : index_at pivots i - 1 ≡ (pivot m v).col = omega (arith, column-is) in
-          let deg : degreeAt pivots i - 1 ≡ (pivot m v).deg = omega (arith, degree-is) in
+          let deg : degree_at pivots i - 1 ≡ (pivot m v).deg = omega (arith, degree-is) in
           (last-is (w * m) (λ x. get_or (row_of m w r i) (x % m * w + x / m) 0)).top some
           (row_at i (pivot m v).col (pivot m v).deg li column_fits degree-fits ∙ sym (ap₂ (λ (x y : ℕ). get_or r (spot m w i x y) 0) col deg) ∙ z)
 
-      pub pivot-asked : PivotAsked m w i (get_or pivots i zeroRow) r
+      pub pivot-asked : PivotAsked m w i (get_or pivots i zero_row) r
       pivot-asked = record { leading = leading-asked; nonzero = N.pos_of_ne-zero lead }
 
     -- from the height of its pivot on a row is zero
-    pub pivot-short : (i : ℕ) → i < n → Short w (degreeAt pivots i) m (spot m w i) r
+    pub pivot-short : (i : ℕ) → i < n → Short w (degree_at pivots i) m (spot m w i) r
     pivot-short i li = subst (λ (h : ℕ). Short w h m (spot m w i) r) (sym (found.row i li).degree-is) (row-short i li)
 
     -- of two rows that a step reduces
     pub lower-asked : {p reciprocal l k : ℕ} → Ready p reciprocal → Prime p → Coefficients p r → StepRows n m (values_of m w r) l k
-        → LowerAsked p reciprocal m w l k (get_or pivots l zeroRow) (get_or pivots k zeroRow) r
+        → LowerAsked p reciprocal m w l k (get_or pivots l zero_row) (get_or pivots k zero_row) r
     lower-asked {l = l} {k = k} ready prime residues reducing = record {
       plan = record {
         ready = ready;

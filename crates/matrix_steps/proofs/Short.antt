@@ -17,7 +17,7 @@ use Rattle.matrix_rows.specs.Asked.{Short}
 use Rattle.theory_reduction.specs.Step.{Carried}
 use Rattle.theory_reduction.proofs.Degrees.{degrees-most}
 use Rattle.theory_reduction.specs.Narrow.{pivot-degree, spent-since, Narrow}
-use Rattle.matrix_pivots.specs.Pivot.{values_of, degreeAt, Pivots}
+use Rattle.matrix_pivots.specs.Pivot.{values_of, degree_at, Pivots}
 use Rattle.matrix_pivots.specs.declared.pivot.Pivot.{Pivot}
 use Rattle.matrix_promises.specs.Holding.{Holding}
 use Rattle.matrix_steps.specs.Asked.{Sizes}
@@ -41,7 +41,7 @@ module _ (p : ℕ) (P : Prime p) (n m w : ℕ) (A : ℕ → Row (Zp p)) {r u v :
 
   -- column l of V has no term from w - D on, for the pivot degree D of row l of the result
   pub v-short : 0 < m → 0 < w → AllBounded K.ring n m w A → {pivots : List Pivot} → Pivots n m (values_of m w r) pivots
-      → (l : ℕ) → l < n → Short w (w + 1 - degreeAt pivots l) n (λ i. spot n w i l) v
+      → (l : ℕ) → l < n → Short w (w + 1 - degree_at pivots l) n (λ i. spot n w i l) v
   v-short columns places bounded found l ll = record {
     zero = λ i s li from lt.
         h.V'.at i l s li ll lt

@@ -11,7 +11,7 @@ use Rattle.theory_rings.specs.PrimeField.{zp-field}
 use Rattle.theory_rings.proofs.PrimeField.{field-zero}
 use Rattle.theory_algebra.proofs.Residue.{zp-path}
 use Rattle.theory_lattice.specs.Row.{Row}
-use Rattle.theory_lists.specs.Last.{lastNonzero}
+use Rattle.theory_lists.specs.Last.{last_nonzero}
 use Rattle.theory_lists.specs.Total.{total}
 use Rattle.theory_lists.proofs.Last.{last-is, last-nil, last-zero, last-here}
 use Rattle.theory_lists.proofs.Total.{total-bound}
@@ -28,7 +28,7 @@ module _ (p : ℕ) (P : Prime p) where
   K = zp-field p P
 
   -- the last residue that is not zero is the last number that is not
-  pub top-last : (n : ℕ) (f : ℕ → Zp p) (g : ℕ → ℕ) → ((x : ℕ) → x < n → g x ≡ (f x).val) → top K n f ≡ lastNonzero n g
+  pub top-last : (n : ℕ) (f : ℕ → Zp p) (g : ℕ → ℕ) → ((x : ℕ) → x < n → g x ≡ (f x).val) → top K n f ≡ last_nonzero n g
   unfolding top
   top-last zero f g h = sym (last-nil g)
   top-last (suc n) f g h = go (K.dec (f n) K.ring.𝟘) (top-last n f g (λ x l. h x (omega arith)))
@@ -36,9 +36,9 @@ module _ (p : ℕ) (P : Prime p) where
       less : suc n - 1 ≡ n
       less = omega arith
 
-      go : (d : Dec (f n ≡ K.ring.𝟘)) → top K n f ≡ lastNonzero n g → (elim d as (λ _. ℕ) [ yes _ ↦ top K n f | no _ ↦ suc n ]) ≡ lastNonzero (suc n) g
+      go : (d : Dec (f n ≡ K.ring.𝟘)) → top K n f ≡ last_nonzero n g → (elim d as (λ _. ℕ) [ yes _ ↦ top K n f | no _ ↦ suc n ]) ≡ last_nonzero (suc n) g
       go (yes z) rec = rec ∙ sym (last-zero (suc n) g (omega arith) (ap g less ∙ h n (omega arith) ∙ ap (λ (x : Zp p). x.val) z ∙ field-zero p P)
-          ∙ ap (λ (y : ℕ). lastNonzero y g) less)
+          ∙ ap (λ (y : ℕ). last_nonzero y g) less)
       go (no ne) rec = sym (last-here (suc n) g (omega arith) (λ z. ne (zp-path _ _ (sym (h n (omega arith)) ∙ ap g (sym less) ∙ z ∙ sym (field-zero p P)))))
 
   -- the value of a row

@@ -1,7 +1,7 @@
 // The multiple of a row that is taken from another: what removes a term of it.
 ghost use Rattle.std.specs.Prelude.{◌≡◌};
 ghost use Rattle.matrix_steps.specs.multiple.Asked.{CoefficientAsked, DivideAsked, PlanAsked};
-ghost use Rattle.matrix_steps.specs.multiple.Factor.{coefficientAt, Divided, Factor};
+ghost use Rattle.matrix_steps.specs.multiple.Factor.{coefficient_at, Divided, Factor};
 
 use matrix_pivots::{Pivot, PivotDegree, PivotIndex};
 use poly::{Modulus, Residue};
@@ -25,7 +25,7 @@ pub fn coefficient(
     w: usize,
 ) -> Residue
     requires { CoefficientAsked m w i x.0 h.0 r.now }
-    ensures { result.0 ≡ coefficientAt m w r.now i x.0 h.0 }
+    ensures { result.0 ≡ coefficient_at m w r.now i x.0 h.0 }
 {
     let s = m * w;
     let j = x.column();

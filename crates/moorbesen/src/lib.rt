@@ -1,6 +1,6 @@
 // The services for programs in C: each forwards to the matrix crate and tells the answer by its numbers.
 ghost use Rattle.std.specs.Prelude.{◌≡◌};
-ghost use Rattle.moorbesen.specs.Reply.{replyOf, stepReplyOf, popovReplyOf, determinantReplyOf, Replied, StepReplied, PopovReplied, DeterminantReplied};
+ghost use Rattle.moorbesen.specs.Reply.{reply_of, step_reply_of, popov_reply_of, determinant_reply_of, Replied, StepReplied, PopovReplied, DeterminantReplied};
 
 use matrix::determinant::DeterminantAnswer;
 use matrix::popov_form::PopovAnswer;
@@ -20,7 +20,7 @@ pub struct Reply {
 }
 
 fn tell(x: Answer) -> Reply
-    ensures { result ≡ replyOf x }
+    ensures { result ≡ reply_of x }
 {
     match x {
         Answer::NotDone(x) => Reply {
@@ -58,7 +58,7 @@ pub extern "C" fn moorbesen_reduce(
 
 // A single step has no rank and no list of rows: both are 0.
 fn tell_step(x: StepAnswer) -> Reply
-    ensures { result ≡ stepReplyOf x }
+    ensures { result ≡ step_reply_of x }
 {
     match x {
         StepAnswer::NotDone(x) => tell(Answer::NotDone(x)),
@@ -96,7 +96,7 @@ pub struct PopovReply {
 }
 
 fn tell_popov(x: PopovAnswer) -> PopovReply
-    ensures { result ≡ popovReplyOf x }
+    ensures { result ≡ popov_reply_of x }
 {
     match x {
         PopovAnswer::NotDone(x) => PopovReply {
@@ -144,7 +144,7 @@ pub struct DeterminantReply {
 }
 
 fn tell_determinant(x: DeterminantAnswer) -> DeterminantReply
-    ensures { result ≡ determinantReplyOf x }
+    ensures { result ≡ determinant_reply_of x }
 {
     match x {
         DeterminantAnswer::NotDone(x) => DeterminantReply {

@@ -16,7 +16,7 @@ use Rattle.theory_lists.specs.Part.{part}
 use Rattle.theory_lists.proofs.Change.{get_d_past}
 use Rattle.theory_lists.proofs.Last.{last-is, last-unique}
 use Rattle.theory_lists.proofs.Part.{length_part, get_d_part}
-use Rattle.poly.specs.Polynomial.{usedPlaces, leadingOf, SamePolynomial}
+use Rattle.poly.specs.Polynomial.{used_places, leading_of, SamePolynomial}
 
 -- the first i places are zero
 abbrev pub ZerosBelow : List ℕ → ℕ → Type 0
@@ -67,19 +67,19 @@ ends-part l s n e le z = ends-lower l s n e le (λ i h k.
     ∙ sym (get_d_part s (n - s) l fits (i - s) (omega arith))
     ∙ z (i - s) (omega (arith, length_part s (n - s) l fits)))
 
-pub ends-height : (l : List ℕ) → Ends l (usedPlaces l)
+pub ends-height : (l : List ℕ) → Ends l (used_places l)
 ends-height l = let x = last-is (length l) (λ i. get_or l i 0) in record {
   within = x.within;
   zeros = λ i h. elim (dec_le (length l) i) [ yes past ↦ get_d_past l i past | no before ↦ x.zeros i h (omega arith) ];
 }
 
 -- the last that is not zero is the one before n
-pub ends_at : (l : List ℕ) (n : ℕ) → Ends l n → (0 < n → get_or l (n - 1) 0 ≢ 0) → n ≡ usedPlaces l
+pub ends_at : (l : List ℕ) (n : ℕ) → Ends l n → (0 < n → get_or l (n - 1) 0 ≢ 0) → n ≡ used_places l
 ends_at l n e top = sym (last-unique (length l) (λ i. get_or l i 0) n (record { within = e.within; zeros = λ i h _. e.zeros i h; top = top }))
 
 -- the zero polynomial has no leading coefficient
-pub leading-none : (l : List ℕ) → usedPlaces l ≡ 0 → leadingOf l ≡ 0
-leading-none l z = (ends-height l).zeros (usedPlaces l - 1) (omega arith)
+pub leading-none : (l : List ℕ) → used_places l ≡ 0 → leading_of l ≡ 0
+leading-none l z = (ends-height l).zeros (used_places l - 1) (omega arith)
 
 -- the degree of a polynomial that is not zero, as the machine has it
 pub machine-degree : (h n : ℕ) → n ≡ h → 0 < n → n ≤ 2 ^ 63 → to_z w64 (n - 1) ≡ pred_ℤ (pos h)
@@ -90,25 +90,25 @@ machine-degree h n e po fits = simp (lt-ltb (n - 1) (2 ^ 63) (omega arith)) (sym
 
 module _ (a b : List ℕ) where
   -- the same polynomial ends at the same place
-  pub same-height : SamePolynomial a b → usedPlaces a ≡ usedPlaces b
-  same-height s = sym (ends_at a (usedPlaces b) ends some)
+  pub same-height : SamePolynomial a b → used_places a ≡ used_places b
+  same-height s = sym (ends_at a (used_places b) ends some)
     where
-      some : 0 < usedPlaces b → get_or a (usedPlaces b - 1) 0 ≢ 0
-      some h z = (last-is (length b) (λ i. get_or b i 0)).top h (sym (s.same (usedPlaces b - 1)) ∙ z)
+      some : 0 < used_places b → get_or a (used_places b - 1) 0 ≢ 0
+      some h z = (last-is (length b) (λ i. get_or b i 0)).top h (sym (s.same (used_places b - 1)) ∙ z)
 
-      ends : Ends a (usedPlaces b)
+      ends : Ends a (used_places b)
       ends = record {
-        within = elim (dec_le (usedPlaces b) (length a)) [
+        within = elim (dec_le (used_places b) (length a)) [
           | yes in-a ↦ in-a
-          | no past ↦ absurd (some (omega arith) (get_d_past a (usedPlaces b - 1) (omega arith)))
+          | no past ↦ absurd (some (omega arith) (get_d_past a (used_places b - 1) (omega arith)))
         ];
         zeros = λ i h. s.same i ∙ (ends-height b).zeros i h;
       }
 
   -- where the loop stands that compares two lists that end at n, having come to i
   pub record Comparing (n i : ℕ) : Type 0 where
-    pub first : n ≡ usedPlaces a
-    pub second : n ≡ usedPlaces b
+    pub first : n ≡ used_places a
+    pub second : n ≡ used_places b
     pub to : i ≤ n
     pub same : (j : ℕ) → j < i → get_or a j 0 ≡ get_or b j 0
 

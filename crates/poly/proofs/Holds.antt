@@ -20,7 +20,7 @@ use Rattle.theory_rings.proofs.Series.{zero-at}
 use Rattle.theory_lists.proofs.Change.{get_d_past}
 use Rattle.theory_lists.proofs.Last.{IsLast, last-is}
 use Rattle.poly.proofs.Ending.{ends-height}
-use Rattle.poly.specs.Polynomial.{usedPlaces, degreeOf, leadingOf, SamePolynomial}
+use Rattle.poly.specs.Polynomial.{used_places, degree_of, leading_of, SamePolynomial}
 use Rattle.theory_lists.specs.Coefficients.{Coefficients}
 use Rattle.poly.specs.Holds.{Holds}
 
@@ -51,38 +51,38 @@ module _ (p : ℕ) (P : Prime p) where
   number-zero a e = zp-path _ _ (e ∙ sym (field-zero p P))
 
   module _ (l : List ℕ) (f : ℕ → Zp p) (h : Holds p l f) where
-    last : IsLast (length l) (λ i. get_or l i 0) (usedPlaces l)
+    last : IsLast (length l) (λ i. get_or l i 0) (used_places l)
     last = last-is (length l) (λ i. get_or l i 0)
 
-    past-height : (k : ℕ) → usedPlaces l ≤ k → f k ≡ K.ring.𝟘
+    past-height : (k : ℕ) → used_places l ≤ k → f k ≡ K.ring.𝟘
     past-height k from = number-zero (f k) (sym (h.at k) ∙ (ends-height l).zeros k from)
 
     -- the height that a degree stands for
-    height-none : degreeOf l ≡ negsuc 0 → usedPlaces l ≡ 0
-    height-none e = go (usedPlaces l) e
+    height-none : degree_of l ≡ negsuc 0 → used_places l ≡ 0
+    height-none e = go (used_places l) e
       where
         go : (n : ℕ) → pred_ℤ (pos n) ≡ negsuc 0 → n ≡ 0
         go zero _ = refl
         go (suc n) x = absurd (pos-ne-negsuc n 0 x)
 
-    height-some : (d : ℕ) → degreeOf l ≡ pos d → usedPlaces l ≡ suc d
-    height-some d e = go (usedPlaces l) e
+    height-some : (d : ℕ) → degree_of l ≡ pos d → used_places l ≡ suc d
+    height-some d e = go (used_places l) e
       where
         go : (n : ℕ) → pred_ℤ (pos n) ≡ pos d → n ≡ suc d
         go zero x = absurd (pos-ne-negsuc d 0 (sym x))
         go (suc n) x = ap (λ z. suc (nat_abs z)) x
 
     -- the coefficient at the degree is the leading one
-    pub leading_at : (d : ℕ) → degreeOf l ≡ pos d → leadingOf l ≡ (f d).val
+    pub leading_at : (d : ℕ) → degree_of l ≡ pos d → leading_of l ≡ (f d).val
     leading_at d e =
-        let before : usedPlaces l - 1 ≡ d = omega (arith, height-some d e) in
+        let before : used_places l - 1 ≡ d = omega (arith, height-some d e) in
         ap (λ (i : ℕ). get_or l i 0) before ∙ h.at d
 
     -- the degree is -1 where the polynomial is zero, and else the degree of the polynomial
-    pub degree-zero : degreeOf l ≡ negsuc 0 → f ≡ (series K.ring).𝟘
+    pub degree-zero : degree_of l ≡ negsuc 0 → f ≡ (series K.ring).𝟘
     degree-zero e = fun_ext (λ k. past-height k (omega (arith, height-none e)) ∙ sym (zero-at K.ring k))
 
-    pub degree-some : (d : ℕ) → degreeOf l ≡ pos d → Degree K.ring f d
+    pub degree-some : (d : ℕ) → degree_of l ≡ pos d → Degree K.ring f d
     degree-some d e = record {
       top = λ z. last.top (omega (arith, height-some d e)) (leading_at d e ∙ zero_number (f d) z);
       below = λ k from. past-height k (omega (arith, height-some d e));

@@ -9,7 +9,7 @@ use lib.ListN.{length}
 use Rattle.theory_algebra.specs.Prime.{Prime}
 use Rattle.theory_algebra.proofs.Flag.{flag-unique}
 use Rattle.theory_algebra.proofs.Residue.{mul_mod_right}
-use Rattle.poly.specs.Polynomial.{usedPlaces, SamePolynomial}
+use Rattle.poly.specs.Polynomial.{used_places, SamePolynomial}
 use Rattle.poly.specs.residues.Modulus.{Ready, Inverse}
 use Rattle.theory_algebra.specs.Modulus.{Accepted}
 use Rattle.poly.specs.declared.residues.Modulus.{Modulus}
@@ -24,7 +24,7 @@ is-prime-unique p = flag-unique
 pub equal-unique : (a b : List ℕ) (r s : Bool) → (r ≡ true) ↔ SamePolynomial a b → (s ≡ true) ↔ SamePolynomial a b → r ≡ s
 equal-unique a b = flag-unique
 
-pub used-unique : (a : List ℕ) (r s : ℕ) → (r ≡ usedPlaces a) × (r ≤ length a) → (s ≡ usedPlaces a) × (s ≤ length a) → r ≡ s
+pub used-unique : (a : List ℕ) (r s : ℕ) → (r ≡ used_places a) × (r ≤ length a) → (s ≡ used_places a) × (s ≤ length a) → r ≡ s
 used-unique a r s f g = f.0 ∙ sym g.0
 
 -- the prime determines the reciprocal

@@ -2,7 +2,7 @@
 ghost use Rattle.std.specs.Prelude.{◌≡◌, ◌*◌, ◌-◌, ◌<◌, ◌≤◌, length};
 ghost use Rattle.theory_lists.specs.Change.{imap};
 ghost use Rattle.poly.specs.residues.Modulus.{Ready};
-ghost use Rattle.poly.specs.arithmetic.Operations.{plusTimes, AddAsked, plusTerm, TermAsked, plusMultiple, MultipleAsked, productAt, productOf, ProductAsked, scaledBy, zeros};
+ghost use Rattle.poly.specs.arithmetic.Operations.{plus_times, AddAsked, plus_term, TermAsked, plus_multiple, MultipleAsked, product_at, product_of, ProductAsked, scaled_by, zeros};
 
 use crate::polynomial;
 use crate::residues::{Modulus, Residue};
@@ -10,7 +10,7 @@ use crate::residues::{Modulus, Residue};
 // a plus c times b, place by place.
 fn add_scaled(a: &mut [u16], b: &[u16], c: Residue, md: Modulus)
     requires { AddAsked md.p md.reciprocal c.0 a.old b.now }
-    ensures { a.new ≡ imap (plusTimes md.p c.0 b.now) a.old }
+    ensures { a.new ≡ imap (plus_times md.p c.0 b.now) a.old }
 {
     let mut i = 0;
     while i < a.len() {
@@ -24,7 +24,7 @@ fn add_scaled(a: &mut [u16], b: &[u16], c: Residue, md: Modulus)
 // a with c times y added at place i: one term of a multiple, where what is added stands in the same buffer and goes by value.
 pub fn add_at(a: &mut [u16], i: usize, y: Residue, c: Residue, md: Modulus)
     requires { TermAsked md.p md.reciprocal c.0 y.0 i a.old }
-    ensures { a.new ≡ plusTerm md.p c.0 y.0 i a.old }
+    ensures { a.new ≡ plus_term md.p c.0 y.0 i a.old }
 {
     a[i] = Residue::held(a[i]).plus_product(c, y, md).number();
 }
@@ -32,7 +32,7 @@ pub fn add_at(a: &mut [u16], i: usize, y: Residue, c: Residue, md: Modulus)
 // a plus c·x^e times b, in a's places. The terms of b up to the last that is not zero all fit, by the contract.
 pub fn add_multiple(a: &mut [u16], b: &[u16], c: Residue, e: usize, md: Modulus)
     requires { MultipleAsked md.p md.reciprocal c.0 e a.old b.now }
-    ensures { a.new ≡ plusMultiple md.p c.0 e b.now a.old }
+    ensures { a.new ≡ plus_multiple md.p c.0 e b.now a.old }
 {
     let n = polynomial::used(b);
     if n == 0 {
@@ -53,7 +53,7 @@ fn excess(a: usize, b: usize) -> usize
 // The sum of a_i·b_(k-i), over the places that both have.
 fn sum_at(a: &[u16], b: &[u16], k: usize) -> u64
     requires { (length a.now ≤ 4294967296) × (k < 9223372036854775808) }
-    ensures { result ≡ productAt a.now b.now k }
+    ensures { result ≡ product_at a.now b.now k }
 {
     let n = k + 1;
     let end = n - excess(n, a.len());
@@ -75,7 +75,7 @@ fn whole_product(x: u16, y: u16) -> u64
 // a times b, reduced once for each place of out.
 pub fn product(a: &[u16], b: &[u16], out: &mut [u16], md: Modulus)
     requires { ProductAsked md.p md.reciprocal a.now b.now out.old }
-    ensures { out.new ≡ productOf md.p a.now b.now out.old }
+    ensures { out.new ≡ product_of md.p a.now b.now out.old }
 {
     let mut k = 0;
     while k < out.len() {
@@ -87,7 +87,7 @@ pub fn product(a: &[u16], b: &[u16], out: &mut [u16], md: Modulus)
 // c times a, in place.
 pub fn scale(a: &mut [u16], c: Residue, md: Modulus)
     requires { Ready md.p md.reciprocal }
-    ensures { a.new ≡ scaledBy md.p c.0 a.old }
+    ensures { a.new ≡ scaled_by md.p c.0 a.old }
 {
     let mut i = 0;
     while i < a.len() {

@@ -1,6 +1,6 @@
 // Polynomials in slices, constant term first, all places present: what is read off them.
 ghost use Rattle.std.specs.Prelude.{◌≡◌, true, ◌↔◌, ℕ, ◌<◌, ◌≤◌, length, get_or};
-ghost use Rattle.poly.specs.Polynomial.{degreeOf, usedPlaces, leadingOf, SamePolynomial};
+ghost use Rattle.poly.specs.Polynomial.{degree_of, used_places, leading_of, SamePolynomial};
 
 use crate::residues::Residue;
 
@@ -38,7 +38,7 @@ fn skip(a: &[u16]) -> usize
 
 // The places up to the last coefficient that is not zero.
 pub fn used(a: &[u16]) -> usize
-    ensures { (result ≡ usedPlaces a.now) × (result ≤ length a.now) }
+    ensures { (result ≡ used_places a.now) × (result ≤ length a.now) }
 {
     let zero = Residue::ZERO.number();
     let mut n = skip(a);
@@ -53,7 +53,7 @@ pub fn used(a: &[u16]) -> usize
 
 impl Degree {
     pub fn of(a: &[u16]) -> Degree
-        ensures { result.0 ≡ degreeOf a.now }
+        ensures { result.0 ≡ degree_of a.now }
     {
         let n = used(a);
         if n == 0 {
@@ -65,7 +65,7 @@ impl Degree {
 
 // The coefficient at the degree, 0 for the zero polynomial.
 pub fn leading(a: &[u16]) -> Residue
-    ensures { result.0 ≡ leadingOf a.now }
+    ensures { result.0 ≡ leading_of a.now }
 {
     let n = used(a);
     if n == 0 {

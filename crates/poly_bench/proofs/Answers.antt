@@ -5,7 +5,7 @@ use mathlib.Core.List.{List}
 use Prim.Native.Nat.{ℕ, ◌+◌, ◌≤◌}
 use lib.ListN.{length}
 use Rattle.theory_algebra.specs.Modulus.{Accepted}
-use Rattle.poly.specs.arithmetic.Operations.{productOf}
+use Rattle.poly.specs.arithmetic.Operations.{product_of}
 use Rattle.theory_algebra.proofs.Flag.{true-false, says-yes, says-no}
 use Rattle.poly_bench.specs.Rounds.{repeated, Summed, Added, Multiplied}
 
@@ -22,5 +22,5 @@ product-refused p rounds a b out h = record { taken = says-no h; done = λ t. ab
 
 pub product-done : (p rounds : ℕ) (a b out : List ℕ) {out' : List ℕ}
     → Accepted p × (length a ≤ 65536) × (length b ≤ 65536) × (length a + length b ≤ length out + 1)
-    → out' ≡ repeated rounds (productOf p a b) out → Multiplied p rounds a b out out' true
+    → out' ≡ repeated rounds (product_of p a b) out → Multiplied p rounds a b out out' true
 product-done p rounds a b out t s = record { taken = says-yes t; done = λ _. s; refused = λ e. absurd (true-false e) }

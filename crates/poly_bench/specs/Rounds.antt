@@ -1,7 +1,7 @@
 -- What the timed functions leave: the result of the last round.
 use Rattle.std.specs.Prelude.{ℕ, zero, suc, ◌+◌, ◌%◌, ◌≤◌, ◌≡◌, Bool, true, false, List, ◌↔◌, length}
 use Rattle.theory_algebra.specs.Modulus.{Accepted}
-use Rattle.poly.specs.arithmetic.Operations.{plusMultiple, productOf, scaledBy}
+use Rattle.poly.specs.arithmetic.Operations.{plus_multiple, product_of, scaled_by}
 
 -- g applied n times
 unfoldable pub repeated : ℕ → (List ℕ → List ℕ) → List ℕ → List ℕ
@@ -10,8 +10,8 @@ repeated (suc n) g l = g (repeated n g l)
 
 -- both lists are reduced modulo p, then c·x^e times b is added to a as often as is asked
 pub record Summed (c e p rounds : ℕ) (a b a' b' : List ℕ) : Type 0 where
-  pub sum : a' ≡ repeated rounds (plusMultiple p (c % p) e (scaledBy p 1 b)) (scaledBy p 1 a)
-  pub source : b' ≡ scaledBy p 1 b
+  pub sum : a' ≡ repeated rounds (plus_multiple p (c % p) e (scaled_by p 1 b)) (scaled_by p 1 a)
+  pub source : b' ≡ scaled_by p 1 b
 
 -- the answer of the sums
 pub record Added (c e p rounds : ℕ) (a b a' b' : List ℕ) (r : Bool) : Type 0 where
@@ -22,5 +22,5 @@ pub record Added (c e p rounds : ℕ) (a b a' b' : List ℕ) (r : Bool) : Type 0
 -- the answer of the products, of which each round writes the same
 pub record Multiplied (p rounds : ℕ) (a b out out' : List ℕ) (r : Bool) : Type 0 where
   pub taken : (r ≡ true) ↔ (Accepted p × (length a ≤ 65536) × (length b ≤ 65536) × (length a + length b ≤ length out + 1))
-  pub done : r ≡ true → out' ≡ repeated rounds (productOf p a b) out
+  pub done : r ≡ true → out' ≡ repeated rounds (product_of p a b) out
   pub refused : r ≡ false → out' ≡ out

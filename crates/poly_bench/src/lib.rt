@@ -2,7 +2,7 @@
 ghost use Rattle.std.specs.Prelude.{◌≡◌, ◌+◌, ◌<◌, ◌≤◌, length};
 ghost use Rattle.poly.specs.residues.Modulus.{Ready};
 ghost use Rattle.theory_lists.specs.Coefficients.{Coefficients};
-ghost use Rattle.poly.specs.arithmetic.Operations.{plusMultiple, ProductAsked, productOf};
+ghost use Rattle.poly.specs.arithmetic.Operations.{plus_multiple, ProductAsked, product_of};
 ghost use Rattle.poly_bench.specs.Rounds.{repeated, Summed, Added, Multiplied};
 
 use poly::{Modulus, Residue, arithmetic};
@@ -10,7 +10,7 @@ use poly::{Modulus, Residue, arithmetic};
 fn add_rounds(a: &mut [u16], b: &[u16], c: Residue, e: usize, md: Modulus, rounds: u32)
     requires ready { Ready md.p md.reciprocal × (c.0 < md.p) }
     requires coefficients { Coefficients md.p a.old × Coefficients md.p b.now × (e + length b.now ≤ length a.old) }
-    ensures { a.new ≡ repeated rounds (plusMultiple md.p c.0 e b.now) a.old }
+    ensures { a.new ≡ repeated rounds (plus_multiple md.p c.0 e b.now) a.old }
 {
     let mut i: u32 = 0;
     while i < rounds {
@@ -32,7 +32,7 @@ fn add_reduced(a: &mut [u16], b: &mut [u16], c: u32, e: usize, md: Modulus, roun
 
 fn product_rounds(a: &[u16], b: &[u16], out: &mut [u16], md: Modulus, rounds: u32)
     requires { ProductAsked md.p md.reciprocal a.now b.now out.old }
-    ensures { out.new ≡ repeated rounds (productOf md.p a.now b.now) out.old }
+    ensures { out.new ≡ repeated rounds (product_of md.p a.now b.now) out.old }
 {
     let mut i: u32 = 0;
     while i < rounds {

@@ -12,9 +12,9 @@ use Rattle.matrix_refusals.proofs.Answering.{refusal-number}
 use Rattle.matrix_refusals.proofs.Unique.{refusal-unique}
 use Rattle.matrix_promises.proofs.Tables.{One, Decides, zero_one, high_one, decides}
 use Rattle.printer_format.specs.Line.{Lines, read, wrong}
-use Rattle.printer_format.specs.File.{headLines, bodyLines, numbersOf, headModulus, WrongLine}
-use Rattle.printer_files.specs.Table.{tableBy, printerTable}
-use Rattle.printer_files.specs.Input.{inputNumber, inputPlace, InputRead, FileRead}
+use Rattle.printer_format.specs.File.{head_lines, body_lines, numbers_of, head_modulus, WrongLine}
+use Rattle.printer_files.specs.Table.{table_by, printer_table}
+use Rattle.printer_files.specs.Input.{input_number, input_place, InputRead, FileRead}
 use Rattle.printer_files.specs.declared.Input.{Input}
 use Rattle.printer_files.specs.declared.Input.TheVariants.{Format, Refused, Matrix}
 
@@ -22,14 +22,14 @@ line-one : (first : ℕ) (x : Lines) → One (WrongLine first x)
 line-one first (read l s) i j f g = absurd f
 line-one first (wrong c) i j f g = f ∙ sym g
 
-table-unique : (size : ℕ) (head : Lines) → Decides (tableBy size head)
-table-unique size head = let body = bodyLines head in
-    decides (tableBy size head)
-    (zero_one, (line-one 1 head, (zero_one, (zero_one, (zero_one, (line-one 5 body, (high_one (headModulus head) (numbersOf body), tt)))))))
+table-unique : (size : ℕ) (head : Lines) → Decides (table_by size head)
+table-unique size head = let body = body_lines head in
+    decides (table_by size head)
+    (zero_one, (line-one 1 head, (zero_one, (zero_one, (zero_one, (line-one 5 body, (high_one (head_modulus head) (numbers_of body), tt)))))))
 
 -- the printer's table allows one number and one place for each text
-pub printer-unique : (s : List ℕ) → Decides (printerTable s)
-printer-unique s = table-unique (length s) (headLines s)
+pub printer-unique : (s : List ℕ) → Decides (printer_table s)
+printer-unique s = table-unique (length s) (head_lines s)
 
 -- a refusal of other tables is not that of the format
 less : (x : Refusal) → number_of x < 7
@@ -41,8 +41,8 @@ less (Length k) = omega arith
 less (Coefficient i) = omega arith
 
 -- what a text is read as is determined by its number and its place, and where it is a matrix by the numbers of the head
-input-one : {table : List Rule} {p n m d : ℕ} {s room room' : List ℕ} (x y : Input) → inputNumber x ≡ inputNumber y
-    → inputPlace x ≡ inputPlace y → InputRead table p n m d s room x → InputRead table p n m d s room' y → x ≡ y
+input-one : {table : List Rule} {p n m d : ℕ} {s room room' : List ℕ} (x y : Input) → input_number x ≡ input_number y
+    → input_place x ≡ input_place y → InputRead table p n m d s room x → InputRead table p n m d s room' y → x ≡ y
 input-one (Format i) (Format j) numbers places f g = ap Format places
 input-one (Format i) (Refused y) numbers places f g = absurd (omega (arith, numbers, less y))
 input-one (Format i) (Matrix p n m d) numbers places f g = absurd (omega (arith, numbers))
@@ -68,7 +68,7 @@ pub file-room-unique : (s room room' : List ℕ) (p n m d : ℕ) → FileRead s 
     → take (n * m * (d + 1)) room ≡ take (n * m * (d + 1)) room'
 file-room-unique s room room' p n m d f g = front f ∙ sym (front g)
   where
-    front : {l : List ℕ} → FileRead s l (Matrix p n m d) → take (n * m * (d + 1)) l ≡ numbersOf (bodyLines (headLines s))
+    front : {l : List ℕ} → FileRead s l (Matrix p n m d) → take (n * m * (d + 1)) l ≡ numbers_of (body_lines (head_lines s))
     front {l} h =
         let held = h.held in
         ap (λ (t : ℕ × ℕ × ℕ). take (t.0 * t.1 * (t.2 + 1)) l) (λ i. (held.rows i, held.columns i, held.degree i))

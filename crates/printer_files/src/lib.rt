@@ -1,6 +1,6 @@
 // Reading the printer's input: its head, its cells, and the refusals in the paper's order.
 ghost use Rattle.std.specs.Prelude.{◌≡◌, length, drop};
-ghost use Rattle.printer_format.specs.File.{headLines, cellLines};
+ghost use Rattle.printer_format.specs.File.{head_lines, cell_lines};
 ghost use Rattle.printer_reading.specs.Read.{CellsAsked};
 ghost use Rattle.printer_files.specs.Input.{HeadRead, MatrixRead, BodyAsked, BodyRead, FileRead};
 
@@ -43,7 +43,7 @@ enum Body {
 
 // The four head lines.
 fn read_head(s: &[u8]) -> Head
-    ensures { HeadRead (headLines s.now) s.now result }
+    ensures { HeadRead (head_lines s.now) s.now result }
 {
     let Number::Read { value: p, next: i } = printer_reading::read_field(s, 0, &keys::MODULUS)
     else {
@@ -65,7 +65,7 @@ fn read_head(s: &[u8]) -> Head
 // The cells, after which nothing may follow. The first of them is line 5.
 fn read_matrix(s: &[u8], at: usize, n: usize, m: usize, d: usize, room: &mut [u16]) -> Body
     requires { CellsAsked s.now at n m d room.old }
-    ensures { MatrixRead (cellLines n m d (drop at s.now)) room.new result }
+    ensures { MatrixRead (cell_lines n m d (drop at s.now)) room.new result }
 {
     match printer_reading::read_cells(s, at, n, m, d, room) {
         Cells::Wrong(c) => Body::Wrong(5 + c),

@@ -6,7 +6,7 @@ use mathlib.Core.Logic.{◌≢◌}
 use mathlib.Core.List.{List, [], ◌∷◌, ◌++◌, append_assoc}
 use lib.ListN.{length, drop}
 use Rattle.printer_format.specs.Number.{Got, got, bad, number}
-use Rattle.printer_format.specs.Line.{mark, starts_with, prefixed, numbers, readLine, Lines, read, wrong, behind, readLines}
+use Rattle.printer_format.specs.Line.{mark, starts_with, prefixed, numbers, read_line, Lines, read, wrong, behind, read_lines}
 
 -- ## Numbers
 
@@ -41,13 +41,13 @@ module _ (left : ℕ) (s : List ℕ) where
 -- ## A line
 
 module _ (key : List ℕ) (count : ℕ) (s : List ℕ) where
-  pub line-bad : starts_with key s ≡ false → readLine key count s ≡ bad
-  unfolding readLine
+  pub line-bad : starts_with key s ≡ false → read_line key count s ≡ bad
+  unfolding read_line
   line-bad e = rw e
 
   -- the key is passed
-  pub line_on : starts_with key s ≡ true → readLine key count s ≡ numbers count (drop (length key) s)
-  unfolding readLine
+  pub line_on : starts_with key s ≡ true → read_line key count s ≡ numbers count (drop (length key) s)
+  unfolding read_line
   line_on e = rw e
 
 -- ## Lines
@@ -61,11 +61,11 @@ behind-append k l (read m s) = ap (λ (x : List ℕ). read x s) (append_assoc k 
 behind-append k l (wrong c) = refl
 
 module _ (reader : ℕ → List ℕ → Got (List ℕ)) (count c : ℕ) (s : List ℕ) where
-  pub lines-wrong : reader c s ≡ bad → readLines reader (suc count) c s ≡ wrong c
-  unfolding readLines
+  pub lines-wrong : reader c s ≡ bad → read_lines reader (suc count) c s ≡ wrong c
+  unfolding read_lines
   lines-wrong e = rw e
 
   -- a line is passed
-  pub lines_next : (l t : List ℕ) → reader c s ≡ got l t → readLines reader (suc count) c s ≡ behind l (readLines reader count (suc c) t)
-  unfolding readLines
+  pub lines_next : (l t : List ℕ) → reader c s ≡ got l t → read_lines reader (suc count) c s ≡ behind l (read_lines reader count (suc c) t)
+  unfolding read_lines
   lines_next l t e = rw e

@@ -8,7 +8,7 @@ use native.Mathlib.Nat.{div-lt_self, div-lt_iff_lt-mul, not-suc-le-zero, pow-suc
 use lib.ListN.{length, drop, length-append}
 use borrow.Author.Tests.{le-leb, lt-leb, lt-ltb, le-ltb}
 use Rattle.theory_algebra.proofs.Cases.{case-le}
-use Rattle.printer_format.specs.Number.{digit, decimalBy, decimal, got, bad, isDigit, digitsOf, value_of, is_plain, is_number, number}
+use Rattle.printer_format.specs.Number.{digit, decimal_by, decimal, got, bad, is_digit, digits_of, value_of, is_plain, is_number, number}
 
 -- ## A number in decimal
 
@@ -17,8 +17,8 @@ pub tenth : (v : ℕ) → 10 ≤ v → v / 10 < v
 tenth v h = div-lt_self {n = v} {k = 10} (omega arith) (omega arith)
 
 -- more digits than enough change nothing
-enough : (k k' v : ℕ) → v < k → v < k' → decimalBy k v ≡ decimalBy k' v
-unfolding decimalBy
+enough : (k k' v : ℕ) → v < k → v < k' → decimal_by k v ≡ decimal_by k' v
+unfolding decimal_by
 enough zero k' v h h' = absurd (not-suc-le-zero h)
 enough (suc k) zero v h h' = absurd (not-suc-le-zero h')
 enough (suc k) (suc k') v h h' = case-le 10 v
@@ -27,11 +27,11 @@ enough (suc k) (suc k') v h h' = case-le 10 v
     (λ small. simp (lt-ltb v 10 small))
 
 pub decimal-one : (v : ℕ) → v < 10 → decimal v ≡ digit v ∷ []
-unfolding decimal decimalBy
+unfolding decimal decimal_by
 decimal-one v h = simp (lt-ltb v 10 h)
 
 pub decimal-more : (v : ℕ) → 10 ≤ v → decimal v ≡ decimal (v / 10) ++ (digit (v % 10) ∷ [])
-unfolding decimal decimalBy
+unfolding decimal decimal_by
 decimal-more v h =
     simp (le-ltb v 10 h) (ap (λ (l : List ℕ). l ++ (digit (v % 10) ∷ [])) (enough v (suc (v / 10)) (v / 10) (tenth v h) (omega arith)))
 
@@ -52,12 +52,12 @@ twenty-digits v h = few-digits 19 v (omega arith)
 
 -- ## The digits that a text begins with
 
-pub digits_more : (b : ℕ) (s : List ℕ) → isDigit b ≡ true → digitsOf (b ∷ s) ≡ b ∷ digitsOf s
-unfolding digitsOf
+pub digits_more : (b : ℕ) (s : List ℕ) → is_digit b ≡ true → digits_of (b ∷ s) ≡ b ∷ digits_of s
+unfolding digits_of
 digits_more b s e = simp e
 
-pub digits-none : (b : ℕ) (s : List ℕ) → isDigit b ≡ false → digitsOf (b ∷ s) ≡ []
-unfolding digitsOf
+pub digits-none : (b : ℕ) (s : List ℕ) → is_digit b ≡ false → digits_of (b ∷ s) ≡ []
+unfolding digits_of
 digits-none b s e = simp e
 
 -- ## Whether digits are a number, by the first test that fails
@@ -86,10 +86,10 @@ module _ (w : List ℕ) where
         unfolding is_number
         is-number h = simp (le-leb 1 (length w) some, le-leb (length w) 5 few, plain, le-leb (value_of w) 65535 h)
 
-pub number-bad : (s : List ℕ) → is_number (digitsOf s) ≡ false → number s ≡ bad
+pub number-bad : (s : List ℕ) → is_number (digits_of s) ≡ false → number s ≡ bad
 unfolding number
 number-bad s e = simp e
 
-pub number-got : (s : List ℕ) → is_number (digitsOf s) ≡ true → number s ≡ got (value_of (digitsOf s)) (drop (length (digitsOf s)) s)
+pub number-got : (s : List ℕ) → is_number (digits_of s) ≡ true → number s ≡ got (value_of (digits_of s)) (drop (length (digits_of s)) s)
 unfolding number
 number-got s e = simp e

@@ -9,9 +9,9 @@ use lib.ListN.{length, get_or, take, drop, length-append, length-take, length-dr
 use lib.Seq.{length-take-le, get_or-take, get_or-drop}
 use lib.Dec.{eqb}
 use borrow.Author.Tests.{eqb-true}
-use Rattle.printer_format.specs.Number.{decimalBy, decimal}
-use Rattle.printer_format.specs.Line.{bytes, cellKey, row, line, lines}
-use Rattle.printer_format.specs.Answer.{refusalText, countsText, resultText, determinantText, answerText, outputRoom}
+use Rattle.printer_format.specs.Number.{decimal_by, decimal}
+use Rattle.printer_format.specs.Line.{bytes, cell_key, row, line, lines}
+use Rattle.printer_format.specs.Answer.{refusal_text, counts_text, result_text, determinant_text, answer_text, output_room}
 use Rattle.printer_format.proofs.Number.{five-digits, twenty-digits}
 
 -- numbers of at most five digits
@@ -60,11 +60,11 @@ unfolding row
 field-length key v h = simp length-append (omega (arith, twenty-digits v h))
 
 done-length : length (line (bytes "answer=") (0 ∷ [])) ≡ 9
-unfolding row decimal decimalBy
+unfolding row decimal decimal_by
 done-length = refl
 
 pub refusal-length : (number place : ℕ) → number < 18446744073709551616 → place < 18446744073709551616
-    → length (refusalText number place) ≤ outputRoom
+    → length (refusal_text number place) ≤ output_room
 refusal-length number place h k = rw (length-append (line (bytes "answer=") (number ∷ [])) (line (bytes "place=") (place ∷ [])))
     (omega (arith, field-length (bytes "answer=") number h, field-length (bytes "place=") place k))
 
@@ -81,28 +81,28 @@ pub record Answerable (rank steps n m d : ℕ) (r det : List ℕ) : Type 0 where
   pub determinant-small : n ≡ m → Writable det
 
 module _ (rank steps n m d : ℕ) (r det : List ℕ) (h : Answerable rank steps n m d r det) where
-  result-length : length (resultText n m d r) ≤ 64 * 388
+  result-length : length (result_text n m d r) ≤ 64 * 388
   result-length =
-      let four : (c : ℕ) → length (cellKey (bytes "r11=") m c) ≡ 4 = λ c. simp length-set in
+      let four : (c : ℕ) → length (cell_key (bytes "r11=") m c) ≡ 4 = λ c. simp length-set in
       let cells : n * m ≤ 8 * 8 = mul-le-mul h.rows h.columns in
       let one_cell : (d + 1) * 6 + 4 ≤ 388 = omega (arith, h.degree) in
       let most : n * m * ((d + 1) * 6 + 4) ≤ 64 * 388 = mul-le-mul cells one_cell in
-      omega (arith, most, lines-length (cellKey (bytes "r11=") m) four (d + 1) (n * m) 0 r h.result-small h.result-size)
+      omega (arith, most, lines-length (cell_key (bytes "r11=") m) four (d + 1) (n * m) 0 r h.result-small h.result-size)
 
-  determinant-length : length (determinantText n m det) ≤ 3034
+  determinant-length : length (determinant_text n m det) ≤ 3034
   determinant-length = go (eqb n m) refl
     where
       go : (b : Bool) → eqb n m ≡ b → length (cond b (line (bytes "det=") det) []) ≤ 3034
       go true square = omega (arith, line-length (bytes "det=") det (h.determinant-small (eqb-true n m square)), h.determinant-size)
       go false differ = omega arith
 
-  pub answer-length : length (answerText rank steps n m d r det) ≤ outputRoom
+  pub answer-length : length (answer_text rank steps n m d r det) ≤ output_room
   answer-length = omega (
     arith,
-    length-append (countsText rank steps) (resultText n m d r ++ determinantText n m det),
+    length-append (counts_text rank steps) (result_text n m d r ++ determinant_text n m det),
     length-append (line (bytes "answer=") (0 ∷ [])) (line (bytes "rank=") (rank ∷ []) ++ line (bytes "steps=") (steps ∷ [])),
     length-append (line (bytes "rank=") (rank ∷ [])) (line (bytes "steps=") (steps ∷ [])),
-    length-append (resultText n m d r) (determinantText n m det),
+    length-append (result_text n m d r) (determinant_text n m det),
     done-length,
     field-length (bytes "rank=") rank h.rank-fits,
     field-length (bytes "steps=") steps h.steps-fits,

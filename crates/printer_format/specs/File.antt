@@ -1,41 +1,41 @@
 -- The printer's input: "key=value lines, each ended by a line feed, in this order: p, n, m, d, then a11, a12 and on by rows,
 -- each with d+1 numbers parted by one space".
 use Rattle.std.specs.Prelude.{ℕ, ◌+◌, ◌*◌, ◌≡◌, List, [], ◌∷◌, get_or}
-use Rattle.printer_format.specs.Line.{bytes, cellKey, readLine, Lines, read, wrong, readLines}
+use Rattle.printer_format.specs.Line.{bytes, cell_key, read_line, Lines, read, wrong, read_lines}
 
 -- the keys of the four head lines
-abbrev pub headKeys : List (List ℕ)
-headKeys = bytes "p=" ∷ bytes "n=" ∷ bytes "m=" ∷ bytes "d=" ∷ []
+abbrev pub head_keys : List (List ℕ)
+head_keys = bytes "p=" ∷ bytes "n=" ∷ bytes "m=" ∷ bytes "d=" ∷ []
 
 -- the four head lines that a text begins with, each with one number
-abbrev pub headLines : List ℕ → Lines
-headLines s = readLines (λ c. readLine (get_or headKeys c []) 1) 4 0 s
+abbrev pub head_lines : List ℕ → Lines
+head_lines s = read_lines (λ c. read_line (get_or head_keys c []) 1) 4 0 s
 
 -- the numbers that were read, and the text that follows
-abbrev pub numbersOf : Lines → List ℕ
-numbersOf (read l s) = l
-numbersOf (wrong c) = []
+abbrev pub numbers_of : Lines → List ℕ
+numbers_of (read l s) = l
+numbers_of (wrong c) = []
 
 abbrev pub rest_of : Lines → List ℕ
 rest_of (read l s) = s
 rest_of (wrong c) = []
 
 -- p, n, m and d, where the head lines were read
-abbrev pub headModulus : Lines → ℕ
-headModulus head = get_or (numbersOf head) 0 0
+abbrev pub head_modulus : Lines → ℕ
+head_modulus head = get_or (numbers_of head) 0 0
 
-abbrev pub headRows : Lines → ℕ
-headRows head = get_or (numbersOf head) 1 0
+abbrev pub head_rows : Lines → ℕ
+head_rows head = get_or (numbers_of head) 1 0
 
-abbrev pub headColumns : Lines → ℕ
-headColumns head = get_or (numbersOf head) 2 0
+abbrev pub head_columns : Lines → ℕ
+head_columns head = get_or (numbers_of head) 2 0
 
-abbrev pub headDegree : Lines → ℕ
-headDegree head = get_or (numbersOf head) 3 0
+abbrev pub head_degree : Lines → ℕ
+head_degree head = get_or (numbers_of head) 3 0
 
 -- the lines of an n by m matrix, each with d+1 numbers
-abbrev pub matrixLines : (n m d : ℕ) → List ℕ → Lines
-matrixLines n m d s = readLines (λ c. readLine (cellKey (bytes "a11=") m c) (d + 1)) (n * m) 0 s
+abbrev pub matrix_lines : (n m d : ℕ) → List ℕ → Lines
+matrix_lines n m d s = read_lines (λ c. read_line (cell_key (bytes "a11=") m c) (d + 1)) (n * m) 0 s
 
 -- "Nothing follows the last line": what does follow is line `count`, which isn't as said
 abbrev pub ended : (count : ℕ) → Lines → Lines
@@ -44,12 +44,12 @@ ended count (read l (b ∷ s)) = wrong count
 ended count (wrong c) = wrong c
 
 -- all that follows the head
-abbrev pub cellLines : (n m d : ℕ) → List ℕ → Lines
-cellLines n m d s = ended (n * m) (matrixLines n m d s)
+abbrev pub cell_lines : (n m d : ℕ) → List ℕ → Lines
+cell_lines n m d s = ended (n * m) (matrix_lines n m d s)
 
 -- the same after these head lines
-abbrev pub bodyLines : (head : Lines) → Lines
-bodyLines head = cellLines (headRows head) (headColumns head) (headDegree head) (rest_of head)
+abbrev pub body_lines : (head : Lines) → Lines
+body_lines head = cell_lines (head_rows head) (head_columns head) (head_degree head) (rest_of head)
 
 -- all the lines are as said
 abbrev pub AsSaid : Lines → Type 0

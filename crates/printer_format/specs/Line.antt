@@ -10,8 +10,8 @@ bytes S.[] = []
 bytes (S.◌∷◌ c s) = code c ∷ bytes s
 
 -- the key of cell c of a matrix of m columns, from the key of the first cell: its digits are the row and the column, counted from 1
-abbrev pub cellKey : (first : List ℕ) (m c : ℕ) → List ℕ
-cellKey first m c = set (set first 1 (digit (c / m + 1))) 2 (digit (c % m + 1))
+abbrev pub cell_key : (first : List ℕ) (m c : ℕ) → List ℕ
+cell_key first m c = set (set first 1 (digit (c / m + 1))) 2 (digit (c % m + 1))
 
 -- what follows a number of a line: a space where further numbers are left, and else the line feed
 abbrev pub mark : (left : ℕ) → ℕ
@@ -58,8 +58,8 @@ numbers zero s = got [] s
 numbers (suc left) s = marked (mark left) (numbers left) (number s)
 
 -- a line with this key and count numbers
-unfoldable pub readLine : (key : List ℕ) (count : ℕ) → List ℕ → Got (List ℕ)
-readLine key count s = cond (starts_with key s) (numbers count (drop (length key) s)) bad
+unfoldable pub read_line : (key : List ℕ) (count : ℕ) → List ℕ → Got (List ℕ)
+read_line key count s = cond (starts_with key s) (numbers count (drop (length key) s)) bad
 
 -- the numbers of several lines and the text that follows them, or the first line, counted from 0, that isn't as said
 pub data Lines : Type 0 where
@@ -77,6 +77,6 @@ followed c further (got l s) = behind l (further s)
 followed c further bad = wrong c
 
 -- count lines from line c on, where `reader c` reads line c
-unfoldable pub readLines : (reader : ℕ → List ℕ → Got (List ℕ)) (count c : ℕ) → List ℕ → Lines
-readLines reader zero c s = read [] s
-readLines reader (suc count) c s = followed c (readLines reader count (suc c)) (reader c s)
+unfoldable pub read_lines : (reader : ℕ → List ℕ → Got (List ℕ)) (count c : ℕ) → List ℕ → Lines
+read_lines reader zero c s = read [] s
+read_lines reader (suc count) c s = followed c (read_lines reader count (suc c)) (reader c s)

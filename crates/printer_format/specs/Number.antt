@@ -8,13 +8,13 @@ digit v = 48 + v
 -- ## Writing
 
 -- a number in decimal, by at most k digits
-unfoldable pub decimalBy : ℕ → ℕ → List ℕ
-decimalBy zero v = []
-decimalBy (suc k) v = cond (ltb v 10) (digit v ∷ []) (decimalBy k (v / 10) ++ (digit (v % 10) ∷ []))
+unfoldable pub decimal_by : ℕ → ℕ → List ℕ
+decimal_by zero v = []
+decimal_by (suc k) v = cond (ltb v 10) (digit v ∷ []) (decimal_by k (v / 10) ++ (digit (v % 10) ∷ []))
 
 -- a number in decimal: all its digits, with no needless zero in front
 unfoldable pub decimal : ℕ → List ℕ
-decimal v = decimalBy (suc v) v
+decimal v = decimal_by (suc v) v
 
 -- ## Reading
 
@@ -24,21 +24,21 @@ pub data Got (A : Type 0) : Type 0 where
   bad : Got A
 
 -- a byte that is a digit
-abbrev pub isDigit : ℕ → Bool
-isDigit b = leb (digit 0) b && leb b (digit 9)
+abbrev pub is_digit : ℕ → Bool
+is_digit b = leb (digit 0) b && leb b (digit 9)
 
 -- the digits that a text begins with, all of them
-unfoldable pub digitsOf : List ℕ → List ℕ
-digitsOf [] = []
-digitsOf (b ∷ s) = cond (isDigit b) (b ∷ digitsOf s) []
+unfoldable pub digits_of : List ℕ → List ℕ
+digits_of [] = []
+digits_of (b ∷ s) = cond (is_digit b) (b ∷ digits_of s) []
 
 -- what digits stand for, after digits that stand for v
-unfoldable pub valueFrom : ℕ → List ℕ → ℕ
-valueFrom v [] = v
-valueFrom v (b ∷ w) = valueFrom (v * 10 + (b - digit 0)) w
+unfoldable pub value_from : ℕ → List ℕ → ℕ
+value_from v [] = v
+value_from v (b ∷ w) = value_from (v * 10 + (b - digit 0)) w
 
 abbrev pub value_of : List ℕ → ℕ
-value_of w = valueFrom 0 w
+value_of w = value_from 0 w
 
 -- "no needless leading zero; 0 itself is written 0"
 abbrev pub is_plain : List ℕ → Bool
@@ -50,4 +50,4 @@ is_number w = leb 1 (length w) && leb (length w) 5 && is_plain w && leb (value_o
 
 -- the number that a text begins with
 unfoldable pub number : List ℕ → Got ℕ
-number s = cond (is_number (digitsOf s)) (got (value_of (digitsOf s)) (drop (length (digitsOf s)) s)) bad
+number s = cond (is_number (digits_of s)) (got (value_of (digits_of s)) (drop (length (digits_of s)) s)) bad

@@ -1,6 +1,6 @@
 // The keys of the lines, each a fixed byte string that is compared on reading and written by the printer.
 ghost use Rattle.std.specs.Prelude.{◌≡◌, ◌+◌, ◌<◌};
-ghost use Rattle.printer_format.specs.Line.{cellKey};
+ghost use Rattle.printer_format.specs.Line.{cell_key};
 ghost use Rattle.printer_format.specs.keys.Cell.{CellAsked};
 
 pub const MODULUS: [u8; 2] = *b"p=";
@@ -29,7 +29,7 @@ pub const RESULT: [u8; 4] = *b"r11=";
 // The key of cell c of a matrix of m columns, from that of the first cell.
 pub fn key_of_cell(first: [u8; 4], m: usize, c: usize) -> [u8; 4]
     requires { CellAsked m c }
-    ensures { result ≡ cellKey first m c }
+    ensures { result ≡ cell_key first m c }
 {
     let i = c / m;
     let j = c % m;

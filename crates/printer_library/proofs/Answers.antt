@@ -11,7 +11,7 @@ use Rattle.theory_lists.specs.Coefficients.{Coefficients}
 use Rattle.matrix_promises.proofs.Held.{held-coefficients}
 use Rattle.matrix_promises.specs.Layout.{by_rows}
 use Rattle.matrix_buffers.proofs.Bounds.{matrix-few}
-use Rattle.matrix_promises.specs.Refused.{Numbers, reductionSizes, determinantSizes, squareRule, lengthRule, coefficientRule}
+use Rattle.matrix_promises.specs.Refused.{Numbers, reduction_sizes, determinant_sizes, square_rule, length_rule, coefficient_rule}
 use Rattle.matrix_refusals.proofs.Answering.{refusal-number}
 use Rattle.matrix_promises.proofs.Tables.{past-numbers}
 use Rattle.matrix_refusals.proofs.checks.Verdicts.{in_bounds}
@@ -23,10 +23,10 @@ use Rattle.matrix_promises.proofs.Alone.{alone}
 use Rattle.matrix.specs.Reduction.{Answered}
 use Rattle.matrix.specs.declared.reduction.Answer.{Answer}
 use Rattle.matrix.specs.declared.reduction.Answer.TheVariants.{NotDone, Done}
-use Rattle.printer_format.specs.Answer.{refusalText, outputRoom}
-use Rattle.printer_format.specs.File.{headLines, numbersOf, headModulus, headRows, headColumns, headDegree, bodyLines}
+use Rattle.printer_format.specs.Answer.{refusal_text, output_room}
+use Rattle.printer_format.specs.File.{head_lines, numbers_of, head_modulus, head_rows, head_columns, head_degree, body_lines}
 use Rattle.printer_format.proofs.Room.{Writable, Answerable}
-use Rattle.printer_files.specs.Input.{FileRead, inputNumber, inputPlace}
+use Rattle.printer_files.specs.Input.{FileRead, input_number, input_place}
 use Rattle.printer_files.specs.declared.Input.{Input}
 use Rattle.printer_files.specs.declared.Input.TheVariants.{Matrix}
 use Rattle.printer_files.proofs.Accepted.{accepted}
@@ -35,7 +35,7 @@ use Rattle.printer_library.specs.Printed.{MatrixAnswer, Printed, Output}
 use Rattle.printer_library.specs.Asked.{MatrixTaken, Determined, ResultAsked}
 
 -- a text that is written and fits
-pub output : {Is : List ℕ → Type 0} {out : List ℕ} {text : List ℕ} {size : ℕ} {out' : List ℕ} → Is text → length text ≤ outputRoom
+pub output : {Is : List ℕ → Type 0} {out : List ℕ} {text : List ℕ} {size : ℕ} {out' : List ℕ} → Is text → length text ≤ output_room
     → Wrote out 0 text size out' → Output Is out size out'
 output {text = text} is fits wrote = record { text = text; is = is; wrote = wrote; fits = omega (arith, wrote.next, fits) }
 
@@ -49,7 +49,7 @@ module _ {p n m d : ℕ} {a : List ℕ} (asked : MatrixTaken p n m d a) where
       → Promise determinant (record { p = p; n = n; m = m; d = d; a = a; r = det }) number place det' → Determined p n m d a det'
   determined {det} size promised = record {
     determinant = λ square. promised.done (determinant-decided _ _ _ _ promised.told (past-numbers
-        (squareRule n m ∷ lengthRule (length a ∷ length det ∷ []) (determinantSizes n m d) ∷ coefficientRule p a ∷ []) asked.numbers
+        (square_rule n m ∷ length_rule (length a ∷ length det ∷ []) (determinant_sizes n m d) ∷ coefficient_rule p a ∷ []) asked.numbers
         (inr (square, inr ((λ i. asked.size i ∷ size i ∷ []), inr (asked.residues, (refl, refl))))))).0;
   }
 
@@ -63,7 +63,7 @@ pub reduced-to : {p n m d : ℕ} {a r u v r' u' v' : List ℕ} → MatrixTaken p
     → Answered (record { p = p; n = n; m = m; d = d; a = a; r = r; u = u; v = v }) r' u' v' x → ReducedTo p n m d a r' x
 reduced-to {p} {n} {m} {d} {a} {r} {u} {v} asked r-size u-size v-size (NotDone y) answered =
     let given = length a ∷ length r ∷ length u ∷ length v ∷ [] in
-    let fine = past-numbers (lengthRule given (reductionSizes n m d) ∷ coefficientRule p a ∷ []) asked.numbers
+    let fine = past-numbers (length_rule given (reduction_sizes n m d) ∷ coefficient_rule p a ∷ []) asked.numbers
     (inr ((λ i. asked.size i ∷ r-size i ∷ u-size i ∷ v-size i ∷ []), inr (asked.residues, (refl, refl)))) in
     omega (arith, refusal-number y, (matrix-decided _ _ _ _ answered.told fine).0)
 reduced-to asked r-size u-size v-size (Done rank count rows) answered =
@@ -108,11 +108,11 @@ module _ {p n m d : ℕ} {a r det : List ℕ} {rank count : ℕ} (asked : Result
 
 module _ (s : List ℕ) {room : List ℕ} where
   -- a text that is refused
-  pub printed-refused : (x : Input) {w : List ℕ} → FileRead s room x → 0 < inputNumber x → w ≡ refusalText (inputNumber x) (inputPlace x)
+  pub printed-refused : (x : Input) {w : List ℕ} → FileRead s room x → 0 < input_number x → w ≡ refusal_text (input_number x) (input_place x)
       → Printed s w
   printed-refused x found some is = record {
-    number = inputNumber x;
-    place = inputPlace x;
+    number = input_number x;
+    place = input_place x;
     told = found.told;
     refused = λ _. is;
     done = λ none. absurd (omega (arith, some, none));
@@ -122,7 +122,7 @@ module _ (s : List ℕ) {room : List ℕ} where
   module _ {p n m d : ℕ} (found : FileRead s room (Matrix p n m d)) where
     -- the matrix that was read is that of the text
     same : ◌≡◌ {A = ℕ × ℕ × ℕ × ℕ × List ℕ} (p, n, m, d, take (n * (m * (d + 1))) room)
-        (headModulus (headLines s), headRows (headLines s), headColumns (headLines s), headDegree (headLines s), numbersOf (bodyLines (headLines s)))
+        (head_modulus (head_lines s), head_rows (head_lines s), head_columns (head_lines s), head_degree (head_lines s), numbers_of (body_lines (head_lines s)))
     same =
         let held = found.held in
         let front = ap (λ (k : ℕ). take k room) (sym (mul_assoc n m (d + 1)))

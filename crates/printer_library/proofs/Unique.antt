@@ -11,15 +11,15 @@ use Rattle.theory_algebra.proofs.Cases.{case-le}
 use Rattle.matrix_promises.specs.Answering.{Told}
 use Rattle.matrix_promises.proofs.Unique.{alone-unique, determinant-unique}
 use Rattle.printer_format.specs.Line.{bytes, line}
-use Rattle.printer_format.specs.Answer.{refusalText, countsText, resultText, determinantText}
-use Rattle.printer_files.specs.Table.{printerTable}
+use Rattle.printer_format.specs.Answer.{refusal_text, counts_text, result_text, determinant_text}
+use Rattle.printer_files.specs.Table.{printer_table}
 use Rattle.printer_files.proofs.Unique.{printer-unique}
 use Rattle.printer_files.proofs.Accepted.{accepted}
 use Rattle.printer_writing.proofs.Writing.{wrote-unique, wrote_as}
 use Rattle.printer_library.specs.Printed.{MatrixAnswer, Printed, Output}
 
 -- the line of the determinant is one, also where there is none
-determinant-same : (n m : ℕ) {det det' : List ℕ} → (n ≡ m → det ≡ det') → determinantText n m det ≡ determinantText n m det'
+determinant-same : (n m : ℕ) {det det' : List ℕ} → (n ≡ m → det ≡ det') → determinant_text n m det ≡ determinant_text n m det'
 determinant-same n m {det} {det'} same = go (eqb n m) (λ square. same (eqb-true n m square))
   where
     go : (b : Bool) → (b ≡ true → det ≡ det') → cond b (line (bytes "det=") det) [] ≡ cond b (line (bytes "det=") det') []
@@ -30,16 +30,16 @@ matrix-unique : {p n m d : ℕ} {a w w' : List ℕ} → Prime p → MatrixAnswer
 matrix-unique {n = n} {m} {d} P x y =
     let (ranks, counts, results) = alone-unique P x.reduced y.reduced in
     let dets = determinant-same n m (λ square. determinant-unique P (x.determinant square) (y.determinant square)) in
-    x.is ∙ (λ i. countsText (ranks i) (counts i) ++ (resultText n m d (results i) ++ dets i)) ∙ sym y.is
+    x.is ∙ (λ i. counts_text (ranks i) (counts i) ++ (result_text n m d (results i) ++ dets i)) ∙ sym y.is
 
 pub printed-unique : (s w w' : List ℕ) → Printed s w → Printed s w' → w ≡ w'
 printed-unique s w w' x y =
     let (numbers, places) = printer-unique s _ _ _ _ x.told y.told in
     case-le x.number 0
     (λ none. let zero : x.number ≡ 0 = omega arith in
-    matrix-unique (accepted s (subst (λ (k : ℕ). Told (printerTable s) k x.place) zero x.told)).numbers.modulus.prime
+    matrix-unique (accepted s (subst (λ (k : ℕ). Told (printer_table s) k x.place) zero x.told)).numbers.modulus.prime
     (x.done zero) (y.done (sym numbers ∙ zero)))
-    (λ some. x.refused some ∙ (λ i. refusalText (numbers i) (places i)) ∙ sym (y.refused (omega (arith, numbers))))
+    (λ some. x.refused some ∙ (λ i. refusal_text (numbers i) (places i)) ∙ sym (y.refused (omega (arith, numbers))))
 
 -- so two outputs that the promise allows are equal in length and content
 pub output-unique : (s out : List ℕ) (k l : ℕ) (out₁ out₂ : List ℕ) → Output (Printed s) out k out₁ → Output (Printed s) out l out₂

@@ -6,9 +6,9 @@ use Rattle.matrix_promises.specs.Answering.{Told}
 use Rattle.matrix_promises.specs.Reduced.{IsReducedAlone}
 use Rattle.matrix_promises.specs.Determinant.{IsDeterminant}
 use Rattle.printer_format.specs.Line.{Lines}
-use Rattle.printer_format.specs.File.{headLines, numbersOf, headModulus, headRows, headColumns, headDegree, bodyLines}
-use Rattle.printer_format.specs.Answer.{refusalText, answerText, outputRoom}
-use Rattle.printer_files.specs.Table.{printerTable}
+use Rattle.printer_format.specs.File.{head_lines, numbers_of, head_modulus, head_rows, head_columns, head_degree, body_lines}
+use Rattle.printer_format.specs.Answer.{refusal_text, answer_text, output_room}
+use Rattle.printer_files.specs.Table.{printer_table}
 use Rattle.printer_writing.specs.Wrote.{Wrote}
 
 -- w is the answer for the n by m matrix in a: "`rank=` is the rank; `steps=` is the count; the `r` lines are R", which the reduction
@@ -20,19 +20,19 @@ pub record MatrixAnswer (p n m d : ℕ) (a w : List ℕ) : Type 0 where
   pub reduced : IsReducedAlone p n m (d + 1) a r rank count
   pub det : List ℕ
   pub determinant : n ≡ m → IsDeterminant p n d a det
-  pub is : w ≡ answerText rank count n m d r det
+  pub is : w ≡ answer_text rank count n m d r det
 
 -- the same for the matrix of a text with these head lines
 abbrev pub HeadAnswer : (head : Lines) (w : List ℕ) → Type 0
-HeadAnswer head w = MatrixAnswer (headModulus head) (headRows head) (headColumns head) (headDegree head) (numbersOf (bodyLines head)) w
+HeadAnswer head w = MatrixAnswer (head_modulus head) (head_rows head) (head_columns head) (head_degree head) (numbers_of (body_lines head)) w
 
 -- w is the answer to the text s: the first refusal of the table that applies, and where none does the answer for the matrix of the text
 pub record Printed (s w : List ℕ) : Type 0 where
   pub number : ℕ
   pub place : ℕ
-  pub told : Told (printerTable s) number place
-  pub refused : 0 < number → w ≡ refusalText number place
-  pub done : number ≡ 0 → HeadAnswer (headLines s) w
+  pub told : Told (printer_table s) number place
+  pub refused : 0 < number → w ≡ refusal_text number place
+  pub done : number ≡ 0 → HeadAnswer (head_lines s) w
 
 -- A text that `Is` as wanted was written to the front of the lent output, which made it out', and `size` is its length. The rest of the
 -- output is as it was, and the output has room enough.
@@ -40,4 +40,4 @@ pub record Output (Is : List ℕ → Type 0) (out : List ℕ) (size : ℕ) (out'
   pub text : List ℕ
   pub is : Is text
   pub wrote : Wrote out 0 text size out'
-  pub fits : size ≤ outputRoom
+  pub fits : size ≤ output_room

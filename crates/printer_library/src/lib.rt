@@ -1,7 +1,7 @@
 // The printer: a text in, a text out.
 ghost use Rattle.std.specs.Prelude.{◌≡◌, length};
 ghost use Rattle.matrix_refusals.specs.Number.{number_of, place_of};
-ghost use Rattle.printer_format.specs.Answer.{refusalText};
+ghost use Rattle.printer_format.specs.Answer.{refusal_text};
 ghost use Rattle.printer_library.specs.Printed.{MatrixAnswer, Printed, Output};
 ghost use Rattle.printer_library.specs.Asked.{MatrixTaken, DeterminantAsked, Determined, ResultAsked};
 
@@ -36,13 +36,13 @@ fn polynomial() -> [u16; 505]
 
 // A refusal always fits into the output.
 fn refuse(out: &mut [u8; OUTPUT], number: usize, place: usize) -> usize
-    ensures { Output (λ w. w ≡ refusalText number place) out.old result out.new }
+    ensures { Output (λ w. w ≡ refusal_text number place) out.old result out.new }
 {
     printer_writing::put_refusal(out, number, place)
 }
 
 fn put_refused(out: &mut [u8; OUTPUT], x: Refusal) -> usize
-    ensures { Output (λ w. w ≡ refusalText (number_of x) (place_of x)) out.old result out.new }
+    ensures { Output (λ w. w ≡ refusal_text (number_of x) (place_of x)) out.old result out.new }
 {
     refuse(
         out,

@@ -9,7 +9,7 @@ use lib.ListN.{length, take, drop, length-append, length-take, length-drop}
 use lib.Seq.{take_all, take_at}
 use Rattle.theory_lists.proofs.Grid.{line-end}
 use Rattle.printer_format.specs.Number.{Got, bad}
-use Rattle.printer_format.specs.Line.{behind, readLines}
+use Rattle.printer_format.specs.Line.{behind, read_lines}
 use Rattle.printer_format.proofs.Line.{behind-nil, behind-append, lines_next, lines-wrong}
 use Rattle.printer_reading.specs.Read.{Took, TookCells, Missed}
 
@@ -20,15 +20,15 @@ module _ (reader : ℕ → List ℕ → Got (List ℕ)) (s : List ℕ) (at count
     pub to : c ≤ count
     pub place : a ≡ c * width
     pub inside : i ≤ length s
-    pub same : readLines reader count 0 (drop at s) ≡ behind (take a room) (readLines reader (count - c) c (drop i s))
+    pub same : read_lines reader count 0 (drop at s) ≡ behind (take a room) (read_lines reader (count - c) c (drop i s))
 
   pub storing-start : (room : List ℕ) → length room ≡ count * width → at ≤ length s → Storing at 0 0 room
   storing-start room size inside =
       record { size = size; to = omega arith; place = sym (zero-mul width); inside = inside; same = rw sub-zero (sym (behind-nil _)) }
 
   module _ (i c a : ℕ) (room : List ℕ) (r : Storing i c a room) where
-    pub storing-end : count ≤ c → TookCells (readLines reader count 0 (drop at s)) s room i
-    unfolding readLines
+    pub storing-end : count ≤ c → TookCells (read_lines reader count 0 (drop at s)) s room i
+    unfolding read_lines
     storing-end h =
         let none : count - c ≡ 0 = omega (arith, r.to) in
         let all : c ≡ count = omega (arith, r.to) in
@@ -46,7 +46,7 @@ module _ (reader : ℕ → List ℕ → Got (List ℕ)) (s : List ℕ) (at count
       pub storing-part : length (take (a + width - a) (drop a room)) ≡ width
       storing-part = simp (length-take, length-drop) (omega (arith, storing-room))
 
-      pub storing-wrong : reader c (drop i s) ≡ bad → Missed (readLines reader count 0 (drop at s)) count c
+      pub storing-wrong : reader c (drop i s) ≡ bad → Missed (read_lines reader count 0 (drop at s)) count c
       storing-wrong e = record { is = r.same ∙ rw (left, lines-wrong reader _ c _ e); within = before }
 
       -- the next line was read into its part of the room, as which `new` comes back
@@ -65,8 +65,8 @@ module _ (reader : ℕ → List ℕ → Got (List ℕ)) (s : List ℕ) (at count
             let front : length (take a room ++ new) ≡ a + width = simp (length-append, length-take) (omega (arith, new-width, storing-room)) in
             let more : take a room ++ new ≡ take (a + width) (take a room ++ (new ++ rest)) =
             sym (ap (take (a + width)) (sym (append_assoc (take a room) new rest)) ∙ take_at (take a room ++ new) rest (a + width) front) in
-            let others = readLines reader (count - (c + 1)) (c + 1) (drop next s) in
-            let here : readLines reader (count - c) c (drop i s) ≡ behind new others =
+            let others = read_lines reader (count - (c + 1)) (c + 1) (drop next s) in
+            let here : read_lines reader (count - c) c (drop i s) ≡ behind new others =
             rw (left, add-one) (lines_next reader _ c _ new (drop next s) took.is) in
             record {
               size = storing-size;

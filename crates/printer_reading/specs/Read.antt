@@ -1,6 +1,6 @@
 -- What the readers ask and answer. A definition reads the text from an index on; a reader answers the index where the rest begins.
 use Rattle.std.specs.Prelude.{ℕ, ◌+◌, ◌*◌, ◌≤◌, ◌<◌, ◌≡◌, List, [], ◌∷◌, length, drop}
-use Rattle.printer_format.specs.Number.{Got, got, bad, digitsOf}
+use Rattle.printer_format.specs.Number.{Got, got, bad, digits_of}
 use Rattle.printer_format.specs.Line.{Lines, read, wrong}
 use Rattle.printer_reading.specs.declared.Number.{Number}
 use Rattle.printer_reading.specs.declared.Number.TheVariants.{Read as ReadNumber, Bad as BadNumber}
@@ -13,7 +13,7 @@ use Rattle.printer_reading.specs.declared.Cells.TheVariants.{Read as ReadCells, 
 pub record DigitsAt (s : List ℕ) (at n : ℕ) : Type 0 where
   pub some : 1 ≤ n
   pub few : n ≤ 5
-  pub count : n ≡ length (digitsOf (drop at s))
+  pub count : n ≡ length (digits_of (drop at s))
 
 -- x is what was read of the text s, up to index next
 pub record Took {A : Type 0} (g : Got A) (s : List ℕ) (x : A) (next : ℕ) : Type 0 where

@@ -1,9 +1,9 @@
 // Reading at an index of a text: numbers, lines and the cells of a matrix. What is read of a line goes into lent room, which
 // has a place for each number that the line should have.
 ghost use Rattle.std.specs.Prelude.{◌≡◌, [], ◌∷◌, ◌+◌, ◌*◌, ◌≤◌, length, drop};
-ghost use Rattle.printer_format.specs.Number.{isDigit, digitsOf, value_of, is_plain, number};
-ghost use Rattle.printer_format.specs.Line.{mark, starts_with, numbers, readLine};
-ghost use Rattle.printer_format.specs.File.{matrixLines};
+ghost use Rattle.printer_format.specs.Number.{is_digit, digits_of, value_of, is_plain, number};
+ghost use Rattle.printer_format.specs.Line.{mark, starts_with, numbers, read_line};
+ghost use Rattle.printer_format.specs.File.{matrix_lines};
 ghost use Rattle.printer_reading.specs.Read.{DigitsAt, NumberRead, LineRead, FieldRead, CellsAsked, CellsRead};
 
 use printer_format::keys;
@@ -30,7 +30,7 @@ pub enum Cells {
 }
 
 fn zero_to_nine(b: u8) -> bool
-    ensures { result ≡ isDigit b }
+    ensures { result ≡ is_digit b }
 {
     if b < b'0' {
         return false;
@@ -41,7 +41,7 @@ fn zero_to_nine(b: u8) -> bool
 // The index after the digits that stand at an index.
 fn digits_end(s: &[u8], at: usize) -> usize
     requires { at ≤ length s.now }
-    ensures { result ≡ at + length (digitsOf (drop at s.now)) }
+    ensures { result ≡ at + length (digits_of (drop at s.now)) }
 {
     let mut i = at;
     while i < s.len() {
@@ -56,7 +56,7 @@ fn digits_end(s: &[u8], at: usize) -> usize
 // Whether n digits have no needless zero in front.
 fn no_zero_in_front(s: &[u8], at: usize, n: usize) -> bool
     requires { DigitsAt s.now at n }
-    ensures { result ≡ is_plain (digitsOf (drop at s.now)) }
+    ensures { result ≡ is_plain (digits_of (drop at s.now)) }
 {
     if n == 1 {
         return true;
@@ -67,7 +67,7 @@ fn no_zero_in_front(s: &[u8], at: usize, n: usize) -> bool
 // What n digits stand for.
 fn from_decimal(s: &[u8], at: usize, n: usize) -> u32
     requires { DigitsAt s.now at n }
-    ensures { result ≡ value_of (digitsOf (drop at s.now)) }
+    ensures { result ≡ value_of (digits_of (drop at s.now)) }
 {
     let mut v: u32 = 0;
     let mut k = 0;
@@ -165,7 +165,7 @@ fn read_numbers(s: &[u8], at: usize, room: &mut [u16]) -> Line
 // A line with this key and as many numbers as the room has places.
 fn take_line(s: &[u8], at: usize, key: &[u8], room: &mut [u16]) -> Line
     requires { at ≤ length s.now }
-    ensures { LineRead (readLine key.now (length room.old) (drop at s.now)) s.now room.new result }
+    ensures { LineRead (read_line key.now (length room.old) (drop at s.now)) s.now room.new result }
 {
     if !stands_at(s, at, key) {
         return Line::Bad;
@@ -176,7 +176,7 @@ fn take_line(s: &[u8], at: usize, key: &[u8], room: &mut [u16]) -> Line
 // A line with this key and one number.
 pub fn read_field(s: &[u8], at: usize, key: &[u8]) -> Number
     requires { at ≤ length s.now }
-    ensures { FieldRead (readLine key.now 1 (drop at s.now)) s.now result }
+    ensures { FieldRead (read_line key.now 1 (drop at s.now)) s.now result }
 {
     let mut room = [0u16; 1];
     let Line::Read(next) = take_line(s, at, key, &mut room) else {
@@ -191,7 +191,7 @@ pub fn read_field(s: &[u8], at: usize, key: &[u8]) -> Number
 // The lines of an n by m matrix, up to the first that isn't as said.
 pub fn read_cells(s: &[u8], at: usize, n: usize, m: usize, d: usize, room: &mut [u16]) -> Cells
     requires { CellsAsked s.now at n m d room.old }
-    ensures { CellsRead (matrixLines n m d (drop at s.now)) (n * m) s.now room.new result }
+    ensures { CellsRead (matrix_lines n m d (drop at s.now)) (n * m) s.now room.new result }
 {
     let count = n * m;
     let width = d + 1;

@@ -2,7 +2,7 @@
 ghost use Rattle.std.specs.Prelude.{◌≡◌, [], ◌∷◌, ◌++◌, ◌<◌};
 ghost use Rattle.printer_format.specs.Number.{digit, decimal};
 ghost use Rattle.printer_format.specs.Line.{mark, row, line};
-ghost use Rattle.printer_format.specs.Answer.{refusalText, countsText, resultText, determinantText, answerText};
+ghost use Rattle.printer_format.specs.Answer.{refusal_text, counts_text, result_text, determinant_text, answer_text};
 ghost use Rattle.printer_writing.specs.Wrote.{Wrote, Room};
 ghost use Rattle.printer_writing.specs.Asked.{ResultAsked, AnswerAsked};
 
@@ -104,7 +104,7 @@ fn put_field(out: &mut [u8], at: usize, key: &[u8], v: usize) -> usize
 // The lines of the result, one for each cell.
 fn put_result(out: &mut [u8], at: usize, n: usize, m: usize, d: usize, r: &[u16]) -> usize
     requires { ResultAsked out.old at n m d r.now }
-    ensures { Wrote out.old at (resultText n m d r.now) result out.new }
+    ensures { Wrote out.old at (result_text n m d r.now) result out.new }
 {
     let count = n * m;
     let width = d + 1;
@@ -123,8 +123,8 @@ fn put_result(out: &mut [u8], at: usize, n: usize, m: usize, d: usize, r: &[u16]
 
 // "A refusal prints two lines and nothing else."
 pub fn put_refusal(out: &mut [u8], number: usize, place: usize) -> usize
-    requires { Room out.old 0 (refusalText number place) }
-    ensures { Wrote out.old 0 (refusalText number place) result out.new }
+    requires { Room out.old 0 (refusal_text number place) }
+    ensures { Wrote out.old 0 (refusal_text number place) result out.new }
 {
     let i = put_field(out, 0, &keys::ANSWER, number);
     put_field(out, i, &keys::PLACE, place)
@@ -132,8 +132,8 @@ pub fn put_refusal(out: &mut [u8], number: usize, place: usize) -> usize
 
 // The lines before those of the result.
 fn put_counts(out: &mut [u8], rank: usize, steps: usize) -> usize
-    requires { Room out.old 0 (countsText rank steps) }
-    ensures { Wrote out.old 0 (countsText rank steps) result out.new }
+    requires { Room out.old 0 (counts_text rank steps) }
+    ensures { Wrote out.old 0 (counts_text rank steps) result out.new }
 {
     let i = put_field(out, 0, &keys::ANSWER, 0);
     let j = put_field(out, i, &keys::RANK, rank);
@@ -142,8 +142,8 @@ fn put_counts(out: &mut [u8], rank: usize, steps: usize) -> usize
 
 // "`det=` stands only where n equals m."
 fn put_determinant(out: &mut [u8], at: usize, n: usize, m: usize, det: &[u16]) -> usize
-    requires { Room out.old at (determinantText n m det.now) }
-    ensures { Wrote out.old at (determinantText n m det.now) result out.new }
+    requires { Room out.old at (determinant_text n m det.now) }
+    ensures { Wrote out.old at (determinant_text n m det.now) result out.new }
 {
     if n != m {
         return at;
@@ -163,7 +163,7 @@ pub fn put_answer(
     det: &[u16],
 ) -> usize
     requires { AnswerAsked out.old rank steps n m d r.now det.now }
-    ensures { Wrote out.old 0 (answerText rank steps n m d r.now det.now) result out.new }
+    ensures { Wrote out.old 0 (answer_text rank steps n m d r.now det.now) result out.new }
 {
     let i = put_counts(out, rank, steps);
     let j = put_result(out, i, n, m, d, r);

@@ -8,7 +8,7 @@ use native.Mathlib.Decide.{ℕ_discrete}
 use native.Mathlib.Bridge.{le_prop}
 use native.Mathlib.Nat as N
 use Rattle.theory_algebra.specs.Prime.{Prime}
-use Rattle.theory_algebra.specs.Residue.{Zp, inverseBy, of, plus, times, opposite, inverse}
+use Rattle.theory_algebra.specs.Residue.{Zp, inverse_by, of, plus, times, opposite, inverse}
 
 -- a factor may be reduced first
 pub mul_mod_right : (a b m : ℕ) → a * (b % m) % m ≡ a * b % m
@@ -78,15 +78,15 @@ module _ (p : ℕ) (P : Prime p) where
       e = sym (N.mul_assoc a (p - p / a) y) ∙ ap (λ x. x * y) (complement p a pos) ∙ N.add-mul (p * (a - 1)) (p % a) y
           ∙ ap (λ x. x + p % a * y) (N.mul_assoc p (a - 1) y)
 
-  inverse-by : (n a : ℕ) → a ≤ n → 0 < a → a < p → a * inverseBy n p a % p ≡ 1
-  unfolding inverseBy
+  inverse-by : (n a : ℕ) → a ≤ n → 0 < a → a < p → a * inverse_by n p a % p ≡ 1
+  unfolding inverse_by
   inverse-by zero a l some lp = absurd (omega arith)
   inverse-by (suc n) zero l some lp = absurd (omega arith)
   inverse-by (suc n) (suc zero) l some lp = N.mod-eq_of_lt P.two
   inverse-by (suc n) (suc (suc b)) l some lp =
       let r : p % suc (suc b) < suc (suc b) = N.mod-lt p some in
       let z : 0 < p % suc (suc b) = N.pos_of_ne-zero (P.only (suc (suc b)) (omega arith) lp) in
-      step (suc (suc b)) (inverseBy n p (p % suc (suc b))) some lp (inverse-by n (p % suc (suc b)) (omega arith) z (omega arith))
+      step (suc (suc b)) (inverse_by n p (p % suc (suc b))) some lp (inverse-by n (p % suc (suc b)) (omega arith) z (omega arith))
 
   pub times-inverse : (a : Zp p) → a ≢ of p positive 0 → times p positive a (inverse p positive a) ≡ of p positive 1
   times-inverse a ne =

@@ -9,11 +9,11 @@ pub record Zp (p : ℕ) : Type 0 where
 
 -- a number x with a x = 1 modulo a prime p, for 0 < a < p and a ≤ n: by p = (p / a) a + p % a it is -(p / a) times that of p % a,
 -- and n counts down with a
-unfoldable pub inverseBy : (n p a : ℕ) → ℕ
-inverseBy zero p a = 1
-inverseBy (suc n) p zero = 1
-inverseBy (suc n) p (suc zero) = 1
-inverseBy (suc n) p (suc (suc b)) = (p - p / suc (suc b)) * inverseBy n p (p % suc (suc b))
+unfoldable pub inverse_by : (n p a : ℕ) → ℕ
+inverse_by zero p a = 1
+inverse_by (suc n) p zero = 1
+inverse_by (suc n) p (suc zero) = 1
+inverse_by (suc n) p (suc (suc b)) = (p - p / suc (suc b)) * inverse_by n p (p % suc (suc b))
 
 module _ (p : ℕ) (some : 0 < p) where
   -- the residue of n
@@ -31,4 +31,4 @@ module _ (p : ℕ) (some : 0 < p) where
   opposite a = of (p - a.val)
 
   abbrev pub inverse : Zp p → Zp p
-  inverse a = of (inverseBy a.val p a.val)
+  inverse a = of (inverse_by a.val p a.val)

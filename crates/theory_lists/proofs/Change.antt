@@ -15,11 +15,11 @@ unfolding imap
 length-imap f [] = refl
 length-imap f (x ∷ l) = ap suc (length-imap (λ i. f (suc i)) l)
 
-pub getD-imap : (f : ℕ → ℕ → ℕ) (l : List ℕ) (i : ℕ) → i < length l → get_or (imap f l) i 0 ≡ f i (get_or l i 0)
+pub get_or-imap : (f : ℕ → ℕ → ℕ) (l : List ℕ) (i : ℕ) → i < length l → get_or (imap f l) i 0 ≡ f i (get_or l i 0)
 unfolding imap
-getD-imap f [] i h = absurd (not-suc-le-zero h)
-getD-imap f (x ∷ l) zero h = refl
-getD-imap f (x ∷ l) (suc i) h = getD-imap (λ i. f (suc i)) l i (le_of_suc-le-suc h)
+get_or-imap f [] i h = absurd (not-suc-le-zero h)
+get_or-imap f (x ∷ l) zero h = refl
+get_or-imap f (x ∷ l) (suc i) h = get_or-imap (λ i. f (suc i)) l i (le_of_suc-le-suc h)
 
 pub get_d_past : (l : List ℕ) (i : ℕ) → length l ≤ i → get_or l i 0 ≡ 0
 get_d_past [] i h = refl
@@ -27,16 +27,16 @@ get_d_past (x ∷ l) zero h = absurd (not-suc-le-zero h)
 get_d_past (x ∷ l) (suc i) h = get_d_past l i (le_of_suc-le-suc h)
 
 -- at every index, where past the list the rule makes 0 of 0
-pub getD-imap-every : (f : ℕ → ℕ → ℕ) (l : List ℕ) (i : ℕ) → (length l ≤ i → f i 0 ≡ 0) → get_or (imap f l) i 0 ≡ f i (get_or l i 0)
-getD-imap-every f l i h = elim (dec_le (length l) i) [
+pub get_or-imap-every : (f : ℕ → ℕ → ℕ) (l : List ℕ) (i : ℕ) → (length l ≤ i → f i 0 ≡ 0) → get_or (imap f l) i 0 ≡ f i (get_or l i 0)
+get_or-imap-every f l i h = elim (dec_le (length l) i) [
   | yes past ↦ get_d_past (imap f l) i (rw length-imap past) ∙ sym (h past) ∙ ap (f i) (sym (get_d_past l i past))
-  | no before ↦ getD-imap f l i (omega arith)
+  | no before ↦ get_or-imap f l i (omega arith)
 ]
 
 -- a list whose every element is that of another
 pub imap-copy : (from to : List ℕ) → length from ≡ length to → imap (λ i x. get_or from i 0) to ≡ from
 imap-copy from to same =
-    ext_get_or 0 _ from (length-imap _ to ∙ sym same) (λ i h. getD-imap _ to i (rw length-imap at h))
+    ext_get_or 0 _ from (length-imap _ to ∙ sym same) (λ i h. get_or-imap _ to i (rw length-imap at h))
 
 upto_all : (n : ℕ) (f : ℕ → ℕ → ℕ) (l : List ℕ) → length l ≤ n → upto n f l ≡ imap f l
 unfolding imap upto

@@ -5,7 +5,7 @@ use Prim.Native.Nat.{ℕ, ◌+◌, ◌-◌, ◌≤◌, ◌<◌}
 use native.Mathlib.Omega.{arith}
 use lib.ListN.{length, get_or, take, drop, length-append, length-take, length-drop, get_or-append}
 use lib.Seq.{get_or-take, get_or-drop, get_or-append-add, length-take-le}
-use Rattle.theory_lists.specs.Part.{part, onPart}
+use Rattle.theory_lists.specs.Part.{part, on_part}
 
 module _ (a n : ℕ) (l : List ℕ) (fits : a + n ≤ length l) where
   pub length_part : length (part a n l) ≡ n
@@ -19,28 +19,28 @@ module _ (a n : ℕ) (l : List ℕ) (fits : a + n ≤ length l) where
     front : length (take a l) ≡ a
     front = length-take-le a l (omega arith)
 
-    pub length-onPart : length (onPart a n g l) ≡ length l
-    unfolding onPart
-    length-onPart = simp (length-append, length-take, length-drop, keeps) (omega arith)
+    pub length-on_part : length (on_part a n g l) ≡ length l
+    unfolding on_part
+    length-on_part = simp (length-append, length-take, length-drop, keeps) (omega arith)
 
-    pub onPart-low : (i : ℕ) → i < a → get_or (onPart a n g l) i 0 ≡ get_or l i 0
-    unfolding onPart
-    onPart-low i h = get_or-append (take a l) _ 0 i (omega (arith, front)) ∙ get_or-take a l i 0 h
+    pub on_part-low : (i : ℕ) → i < a → get_or (on_part a n g l) i 0 ≡ get_or l i 0
+    unfolding on_part
+    on_part-low i h = get_or-append (take a l) _ 0 i (omega (arith, front)) ∙ get_or-take a l i 0 h
 
-    pub onPart-in : (i : ℕ) → i < n → get_or (onPart a n g l) (a + i) 0 ≡ get_or (g (part a n l)) i 0
-    unfolding onPart
-    onPart-in i h =
-        ap (λ (m : ℕ). get_or (onPart a n g l) (m + i) 0) (sym front)
+    pub on_part-in : (i : ℕ) → i < n → get_or (on_part a n g l) (a + i) 0 ≡ get_or (g (part a n l)) i 0
+    unfolding on_part
+    on_part-in i h =
+        ap (λ (m : ℕ). get_or (on_part a n g l) (m + i) 0) (sym front)
         ∙ get_or-append-add (take a l) _ i 0
         ∙ get_or-append (g (part a n l)) _ 0 i (rw keeps h)
 
-    pub onPart-high : (i : ℕ) → a + n ≤ i → get_or (onPart a n g l) i 0 ≡ get_or l i 0
-    unfolding onPart
-    onPart-high i h =
+    pub on_part-high : (i : ℕ) → a + n ≤ i → get_or (on_part a n g l) i 0 ≡ get_or l i 0
+    unfolding on_part
+    on_part-high i h =
         let k = i - (a + n) in
         let split : i ≡ a + (n + k) = omega arith in
-        ap (λ (m : ℕ). get_or (onPart a n g l) m 0) split
-        ∙ ap (λ (m : ℕ). get_or (onPart a n g l) (m + (n + k)) 0) (sym front)
+        ap (λ (m : ℕ). get_or (on_part a n g l) m 0) split
+        ∙ ap (λ (m : ℕ). get_or (on_part a n g l) (m + (n + k)) 0) (sym front)
         ∙ get_or-append-add (take a l) _ (n + k) 0
         ∙ ap (λ (m : ℕ). get_or (g (part a n l) ++ drop n (drop a l)) (m + k) 0) (sym keeps)
         ∙ get_or-append-add (g (part a n l)) _ k 0

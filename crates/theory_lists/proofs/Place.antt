@@ -6,7 +6,7 @@ use native.Mathlib.Omega.{arith}
 use native.Mathlib.Nat as N
 use Rattle.theory_algebra.proofs.Cases.{case-le}
 use Rattle.theory_lists.proofs.Grid.{line-end, within}
-use Rattle.theory_lists.specs.Place.{inRow, spot, spaced, Outside, Hit, Layout}
+use Rattle.theory_lists.specs.Place.{place_in_row, spot, spaced, Outside, Hit, Layout}
 
 -- a place tells its block and its place in the block
 pub block-own : (s i r i' r' : ℕ) → r < s → r' < s → i * s + r ≡ i' * s + r' → (i ≡ i') × (r ≡ r')
@@ -23,7 +23,7 @@ spot-inside n m w i j t li lj lt = omega (arith, line-end i n (m * w) li, within
 pub spot-own : (m w i j t i' j' t' : ℕ) → j < m → t < w → j' < m → t' < w → spot m w i j t ≡ spot m w i' j' t'
     → (i ≡ i') × ((j ≡ j') × (t ≡ t'))
 spot-own m w i j t i' j' t' lj lt lj' lt' e =
-    let (row, rest) = block-own (m * w) i (inRow w j t) i' (inRow w j' t') (within j t m w lj lt) (within j' t' m w lj' lt') e in
+    let (row, rest) = block-own (m * w) i (place_in_row w j t) i' (place_in_row w j' t') (within j t m w lj lt) (within j' t' m w lj' lt') e in
     (row, block-own w j t j' t' lt lt' rest)
 
 -- cells at distances of at least their size have no place in common

@@ -5,5 +5,5 @@ abbrev pub part : ℕ → ℕ → List ℕ → List ℕ
 part a n l = take n (drop a l)
 
 -- l with g applied to that part, and the rest as it is: what a part that was lent leaves behind
-unfoldable pub onPart : ℕ → ℕ → (List ℕ → List ℕ) → List ℕ → List ℕ
-onPart a n g l = take a l ++ (g (part a n l) ++ drop n (drop a l))
+unfoldable pub on_part : ℕ → ℕ → (List ℕ → List ℕ) → List ℕ → List ℕ
+on_part a n g l = take a l ++ (g (part a n l) ++ drop n (drop a l))

@@ -2,13 +2,13 @@
 use Rattle.std.specs.Prelude.{◌≡◌, ◌≢◌, ℕ, ◌+◌, ◌*◌, ◌<◌}
 
 -- in a row of cells of w places each: the spot of the coefficient of degree t in cell j, "constant term first"
-abbrev pub inRow : ℕ → ℕ → ℕ → ℕ
-inRow w j t = j * w + t
+abbrev pub place_in_row : ℕ → ℕ → ℕ → ℕ
+place_in_row w j t = j * w + t
 
 -- the spot, or index in the buffer, of the coefficient of degree t in row i and column j, of m columns of cells of w places:
 -- "Cells stand row after row, in each row column after column."
 abbrev pub spot : ℕ → ℕ → ℕ → ℕ → ℕ → ℕ
-spot m w i j t = i * (m * w) + inRow w j t
+spot m w i j t = i * (m * w) + place_in_row w j t
 
 -- cells that follow one another at equal distances, the first at `start`: the spot of the coefficient of degree t in cell i
 abbrev pub spaced : ℕ → ℕ → ℕ → ℕ → ℕ

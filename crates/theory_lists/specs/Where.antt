@@ -2,6 +2,6 @@
 use Rattle.std.specs.Prelude.{ℕ, Bool, true, false}
 
 -- x where the test holds, and else 0
-abbrev pub whereTrue : Bool → ℕ → ℕ
-whereTrue true x = x
-whereTrue false x = 0
+abbrev pub where_true : Bool → ℕ → ℕ
+where_true true x = x
+where_true false x = 0

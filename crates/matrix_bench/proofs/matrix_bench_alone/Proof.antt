@@ -3,7 +3,7 @@ use mathlib.Core.Path.{subst}
 use borrow.Author.Rules.{rules}
 use Rattle.poly.proofs.residues.Range.{in-range}
 use Rattle.matrix_refusals.specs.Number.{Verdict}
-use Rattle.matrix_promises.specs.Refused.{matrixTable}
+use Rattle.matrix_promises.specs.Refused.{matrix_table}
 use Rattle.matrix_refusals.proofs.Answering.{answer-refused}
 use Rattle.matrix_bench.proofs.Service.{Passed, order, copy-fits, alone-asked, replied}
 use Rattle.matrix_bench.proofs.matrix_bench_alone.Statement.{statement}
@@ -16,7 +16,7 @@ start c = c.before.before.before.before.before
 -- past the checks all is in order
 known : (c : tie.After-enum-told) → let args = (start c).args in
     Passed (record { p = args.p; n = args.n; m = args.m; d = args.d; a = args.a.now; r = args.r.now })
-known c = record { told = subst (Verdict (matrixTable _ _ _ _ _ _ _)) c.enum_told.given.1 c.before.before.check-step.ensures }
+known c = record { told = subst (Verdict (matrix_table _ _ _ _ _ _ _)) c.enum_told.given.1 c.before.before.check-step.ensures }
 
 check-step-requires : tie.Need-check-step-requires
 check-step-requires c κs = search rules

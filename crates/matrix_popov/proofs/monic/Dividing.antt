@@ -26,15 +26,15 @@ use Rattle.theory_reduction.specs.Step.{Carried, leading}
 use Rattle.theory_reduction.proofs.Index.{value-is}
 use Rattle.theory_popov.specs.Scaled.{where-some, divisor, dividing, scaled}
 use Rattle.theory_popov.proofs.Scaling.{inverse-is}
-use Rattle.matrix_pivots.specs.Pivot.{values_of, zeroRow, index_at, degreeAt}
+use Rattle.matrix_pivots.specs.Pivot.{values_of, zero_row, index_at, degree_at}
 use Rattle.matrix_pivots.specs.declared.pivot.Pivot.{Pivot}
 use Rattle.matrix_steps.specs.multiple.Asked.{PivotAsked}
-use Rattle.matrix_steps.specs.multiple.Factor.{leadingAt}
+use Rattle.matrix_steps.specs.multiple.Factor.{leading_at}
 use Rattle.matrix_promises.specs.Holding.{Holding}
 use Rattle.matrix_steps.proofs.Moving.{leading-is}
 use Rattle.matrix_steps.proofs.RowsOf.{pivot-asked}
 use Rattle.matrix_steps.proofs.Value.{value-held}
-use Rattle.matrix_popov.specs.monic.Monic.{RowToDivide, whereSome, RowDivided, MonicAsked, MadeMonic}
+use Rattle.matrix_popov.specs.monic.Monic.{RowToDivide, where_some, RowDivided, MonicAsked, MadeMonic}
 
 module _ {F : Type 0} (R : CommRing F) where
   -- an element has one inverse
@@ -96,7 +96,7 @@ pub record Dividing (p n m w : ℕ) (r₀ u₀ v₀ r u v : List ℕ) (i : ℕ) 
 
 -- the number of what a row is divided by, from its pivot index
 number_is : (p : ℕ) (P : Prime p) (m w v : ℕ) (a : Zp p) (x : ℕ) → (0 < v → a.val ≡ x)
-    → (where-some (zp-field p P) m w v a).val ≡ whereSome (index m v) x
+    → (where-some (zp-field p P) m w v a).val ≡ where_some (index m v) x
 unfolding index
 number_is p P m w zero a x h = field-one p P
 number_is p P m w (suc v) a x h = h (omega arith)
@@ -119,15 +119,15 @@ module _ {p reciprocal n m w : ℕ} {r₀ u₀ v₀ : List ℕ} {pivots : List P
 
     module _ (li : i < n) where
       abbrev pivot : Pivot
-      pivot = get_or pivots i zeroRow
+      pivot = get_or pivots i zero_row
 
       -- the leading coefficient of row i is as it was
-      leading-kept : PivotAsked m w i pivot r₀ → leadingAt m w r i pivot ≡ leadingAt m w r₀ i pivot
+      leading-kept : PivotAsked m w i pivot r₀ → leading_at m w r i pivot ≡ leading_at m w r₀ i pivot
       leading-kept x =
           let col : index_at pivots i - 1 < m = omega (arith, x.leading.column, x.leading.column-most) in
-          let deg : degreeAt pivots i - 1 < w = omega (arith, x.leading.height, x.leading.height-most) in
+          let deg : degree_at pivots i - 1 < w = omega (arith, x.leading.height, x.leading.height-most) in
           here.R.at i _ _ li col deg
-          ∙ ap (λ row. (row (index_at pivots i - 1) (degreeAt pivots i - 1)).val) (row_kept (zp-field p prime) m w asked.t i)
+          ∙ ap (λ row. (row (index_at pivots i - 1) (degree_at pivots i - 1)).val) (row_kept (zp-field p prime) m w asked.t i)
           ∙ sym (holding.R.at i _ _ li col deg)
 
       pivot-there : 0 < values_of m w r₀ i → PivotAsked m w i pivot r₀
@@ -161,10 +161,10 @@ module _ {p reciprocal n m w : ℕ} {r₀ u₀ v₀ : List ℕ} {pivots : List P
 
           divisor-number : (divisor K m w (t.R i)).val ≡ d.c
           divisor-number =
-              number_is p P m w _ (leading K m w (t.R i)) (leadingAt m w r i pivot) (λ l.
+              number_is p P m w _ (leading K m w (t.R i)) (leading_at m w r i pivot) (λ l.
               leading-is p P n m w bounds.columns h.R pivots-are i li l
               ∙ sym (leading-kept (pivot-there (omega (arith, value-held p P n m w h.R bounds.columns i li)))))
-              ∙ ap (λ (x : ℕ). whereSome x (leadingAt m w r i pivot))
+              ∙ ap (λ (x : ℕ). where_some x (leading_at m w r i pivot))
               (sym ((pivots-are.row i li).index_is ∙ ap (index m) (sym (value-held p P n m w h.R bounds.columns i li))))
               ∙ sym d.c-is
 

@@ -14,9 +14,9 @@ use Rattle.matrix_promises.proofs.Held.{held-coefficients}
 use Rattle.matrix_buffers.specs.Scaled.{CellsScaled}
 use Rattle.matrix_rows.specs.scale.Asked.{PartToScale}
 use Rattle.matrix_pivots.specs.declared.pivot.Pivot.{Pivot}
-use Rattle.matrix_steps.specs.multiple.Factor.{leadingAt}
+use Rattle.matrix_steps.specs.multiple.Factor.{leading_at}
 use Rattle.matrix_steps.proofs.multiple.Below.{coefficient-below}
-use Rattle.matrix_popov.specs.monic.Monic.{RowToDivide, whereSome, RowDivided}
+use Rattle.matrix_popov.specs.monic.Monic.{RowToDivide, where_some, RowDivided}
 
 -- residues times 1
 once : {p w count : ℕ} {at : ℕ → ℕ → ℕ} {b : List ℕ} → 1 < p → Coefficients p b → CellsScaled p 1 w count at b b
@@ -44,15 +44,15 @@ module _ {p reciprocal n m w i : ℕ} {pivot : Pivot} {r u v : List ℕ} (asked 
   }
 
   -- what a row that is not zero is divided by
-  pub divisor-is : {c : ℕ} → 0 < pivot.index.0 → c ≡ leadingAt m w r i pivot → c ≡ whereSome pivot.index.0 (leadingAt m w r i pivot)
+  pub divisor-is : {c : ℕ} → 0 < pivot.index.0 → c ≡ leading_at m w r i pivot → c ≡ where_some pivot.index.0 (leading_at m w r i pivot)
   divisor-is some is = is ∙ chosen pivot.index.0 _ some
     where
-      chosen : (x lead : ℕ) → 0 < x → lead ≡ whereSome x lead
+      chosen : (x lead : ℕ) → 0 < x → lead ≡ where_some x lead
       chosen zero lead l = absurd (omega arith)
       chosen (suc x) lead l = refl
 
   -- the leading coefficient is a residue
-  pub leading-below : 0 < pivot.index.0 → leadingAt m w r i pivot < p
+  pub leading-below : 0 < pivot.index.0 → leading_at m w r i pivot < p
   leading-below l = coefficient-below (held-coefficients (by_rows n m w) p holding.R) (led l).leading
 
   pub r-row : PartToScale p reciprocal (m * w) (i * (m * w)) r

@@ -20,7 +20,7 @@ use Rattle.theory_popov.proofs.SecondEnding.{second-reach, second-count}
 use Rattle.matrix_pivots.specs.Pivot.{values_of, index_at, Pivots}
 use Rattle.matrix_pivots.specs.declared.pivot.Pivot.{Pivot}
 use Rattle.matrix_steps.proofs.RowsOf.{row_fits, leading-asked}
-use Rattle.matrix_popov.specs.second_step.Excess.{excessAt, HighestAsked, IsHighest}
+use Rattle.matrix_popov.specs.second_step.Excess.{excess_at, HighestAsked, IsHighest}
 use Rattle.matrix_popov.specs.second_step.Removing.{RemoveAsked, SecondMove, Standing, RemovingAsked, ClearedTo, ClearAsked, Cleared}
 use Rattle.matrix_popov.proofs.second_step.Excesses.{left_of, excess-held}
 use Rattle.matrix_popov.proofs.second_step.Step.{other_row, indexed-first, first_some, rest-none, Turn, removal, removal-on, remove-asked}
@@ -173,13 +173,13 @@ module _ {p reciprocal n m w k : ℕ} {r u v : List ℕ} {pivots : List Pivot} (
         }
 
     -- it has no excess
-    pub clearing-end : {i : ℕ} → IsHighest k (excessAt m w r' pivots k) i 0 → Cleared p n m w (k + 1) count pivots r u v r' u' v'
+    pub clearing-end : {i : ℕ} → IsHighest k (excess_at m w r' pivots k) i 0 → Cleared p n m w (k + 1) count pivots r u v r' u' v'
     clearing-end found = record {
       pivots-are = x.pivots-are;
       by = λ P rank A t s.
           let y = x.reached P rank A t s in
-          let none : (a : ℕ) → a < k + 1 → (j : ℕ) → j < a → excessAt m w r' pivots a j ≡ 0 =
-          below_more (λ a. (j : ℕ) → j < a → excessAt m w r' pivots a j ≡ 0) k
+          let none : (a : ℕ) → a < k + 1 → (j : ℕ) → j < a → excess_at m w r' pivots a j ≡ 0 =
+          below_more (λ a. (j : ℕ) → j < a → excess_at m w r' pivots a j ≡ 0) k
           (λ a la j l. x.before.none a j l la) (λ j l. omega (arith, found.greatest j l)) in
           let left : NoRemoval (k + 1) (excesses (zp-field p P) m w y.t'.R) = λ a j l la.
           sym (excess-held p P n m w bounds.columns y.standing.holding.R x.pivots-are a j (omega (arith, k-fits)) (omega (arith, k-fits)))
@@ -188,7 +188,7 @@ module _ {p reciprocal n m w k : ℕ} {r u v : List ℕ} {pivots : List Pivot} (
     }
 
     -- or it has one
-    module _ {i most : ℕ} (found : IsHighest k (excessAt m w r' pivots k) i most) (some : 0 < most) where
+    module _ {i most : ℕ} (found : IsHighest k (excess_at m w r' pivots k) i most) (some : 0 < most) where
       turn : Turn n m w k i most r' pivots
       turn = record { bounds = bounds; k-fits = k-fits; before = x.before; found = found; some = some }
 

@@ -10,12 +10,12 @@ use Rattle.theory_algebra.specs.Prime.{Prime}
 use Rattle.theory_algebra.specs.Residue.{Zp}
 use Rattle.theory_rings.specs.PrimeField.{zp-field}
 use Rattle.theory_lattice.specs.Row.{Row}
-use Rattle.theory_lists.specs.Last.{lastNonzero}
+use Rattle.theory_lists.specs.Last.{last_nonzero}
 use Rattle.theory_lists.specs.Total.{total}
 use Rattle.theory_lists.proofs.Grid.{line-end}
 use Rattle.theory_lists.proofs.Part.{length_part, get_d_part}
 use Rattle.theory_lists.proofs.Total.{total-same}
-use Rattle.poly.specs.Polynomial.{usedPlaces}
+use Rattle.poly.specs.Polynomial.{used_places}
 use Rattle.matrix_promises.specs.Held.{Held}
 use Rattle.matrix_promises.specs.Layout.{by_rows}
 use Rattle.theory_reduction.specs.Pivot.{top}
@@ -26,20 +26,20 @@ use Rattle.matrix_pivots.specs.Pivot.{values_of, Pivots}
 use Rattle.matrix_pivots.specs.declared.pivot.Pivot.{Pivot}
 use Rattle.matrix_steps.proofs.Value.{top-last}
 use Rattle.matrix_steps.proofs.Moving.{column-is, degree-is}
-use Rattle.matrix_popov.specs.second_step.Excess.{cell_of, excessAt}
+use Rattle.matrix_popov.specs.second_step.Excess.{cell_of, excess_at}
 
 -- what is left to remove, by numbers
 abbrev pub left_of : ℕ → ℕ → ℕ → List ℕ → List Pivot → ℕ
-left_of n m w r pivots = total n (λ a. load a (excessAt m w r pivots a))
+left_of n m w r pivots = total n (λ a. load a (excess_at m w r pivots a))
 
 module _ (p : ℕ) (P : Prime p) (n m w : ℕ) (columns : 0 < m) {r : List ℕ} {pivots : List Pivot} {M : ℕ → Row (Zp p)}
     (h : Held (by_rows n m w) p r M) (found : Pivots n m (values_of m w r) pivots) where
   abbrev K : Field (Zp p)
   K = zp-field p P
 
-  cell-top : (i j : ℕ) → i < n → j < m → usedPlaces (cell_of m w r i j) ≡ top K w (M i j)
+  cell-top : (i j : ℕ) → i < n → j < m → used_places (cell_of m w r i j) ≡ top K w (M i j)
   cell-top i j li lj =
-      ap (λ (s : ℕ). lastNonzero s (λ t. get_or (cell_of m w r i j) t 0)) (length_part start w r fits)
+      ap (λ (s : ℕ). last_nonzero s (λ t. get_or (cell_of m w r i j) t 0)) (length_part start w r fits)
       ∙ sym (top-last p P w (M i j) _ (λ t lt.
       get_d_part start w r fits t lt ∙ ap (λ (x : ℕ). get_or r x 0) (N.add_assoc (i * (m * w)) (j * w) t) ∙ h.at i j t li lj lt))
     where
@@ -49,10 +49,10 @@ module _ (p : ℕ) (P : Prime p) (n m w : ℕ) (columns : 0 < m) {r : List ℕ} 
       fits : start + w ≤ length r
       fits = omega (arith, h.size, line-end i n (m * w) li, line-end j m w lj)
 
-  pub excess-held : (k i : ℕ) → k < n → i < n → excessAt m w r pivots k i ≡ excesses K m w M k i
+  pub excess-held : (k i : ℕ) → k < n → i < n → excess_at m w r pivots k i ≡ excesses K m w M k i
   unfolding excess
   excess-held k i lk li = ap₂ (λ (x y : ℕ). x - y)
-      (ap (λ (j : ℕ). usedPlaces (cell_of m w r k j)) (column-is p P n m w columns h found i li) ∙ cell-top k _ lk (N.mod-lt _ columns))
+      (ap (λ (j : ℕ). used_places (cell_of m w r k j)) (column-is p P n m w columns h found i li) ∙ cell-top k _ lk (N.mod-lt _ columns))
       (degree-is p P n m w columns h found i li)
 
   pub left-held : left_of n m w r pivots ≡ left K n m w M

@@ -29,7 +29,7 @@ use Rattle.matrix_promises.specs.Holding.{Holding}
 use Rattle.matrix_promises.specs.Layout.{by_rows}
 use Rattle.matrix_promises.proofs.Held.{held-coefficients}
 use Rattle.matrix_buffers.specs.Bounds.{Bounds}
-use Rattle.matrix_pivots.specs.Pivot.{values_of, index_at, degreeAt, Pivots}
+use Rattle.matrix_pivots.specs.Pivot.{values_of, index_at, degree_at, Pivots}
 use Rattle.matrix_pivots.specs.declared.pivot.Pivot.{Pivot}
 use Rattle.matrix_steps.specs.multiple.Factor.{Divided}
 use Rattle.matrix_steps.specs.multiple.Asked.{CoefficientAsked}
@@ -37,7 +37,7 @@ use Rattle.matrix_steps.proofs.Value.{value-held, height-most}
 use Rattle.matrix_steps.proofs.Moving.{height-is, coefficient-is, leading-is, subtracted-holding}
 use Rattle.matrix_steps.proofs.Short.{spent_fits, u-short, v-short}
 use Rattle.matrix_steps.proofs.RowsOf.{row_fits, pivot-short, pivot-asked}
-use Rattle.matrix_popov.specs.second_step.Excess.{excessAt, IsHighest}
+use Rattle.matrix_popov.specs.second_step.Excess.{excess_at, IsHighest}
 use Rattle.matrix_popov.specs.second_step.Removing.{RemoveAsked, SecondMove, Standing, ClearedTo}
 use Rattle.matrix_popov.proofs.second_step.Runs.{step_then}
 use Rattle.matrix_popov.proofs.second_step.Excesses.{left_of, excess-held, left-held}
@@ -55,7 +55,7 @@ pub record Turn (n m w k i most : ℕ) (r : List ℕ) (pivots : List Pivot) : Ty
   pub bounds : Bounds n m w
   pub k-fits : k < n
   pub before : ClearedTo m w k r pivots
-  pub found : IsHighest k (excessAt m w r pivots k) i most
+  pub found : IsHighest k (excess_at m w r pivots k) i most
   pub some : 0 < most
 
 -- a state that the buffers hold, with the pivots of its rows
@@ -70,10 +70,10 @@ module _ {p n m w rank : ℕ} {P : Prime p} {A : ℕ → Row (Zp p)} {r u v : Li
   value-is : (i : ℕ) → i < n → value K m w (M i) ≡ values_of m w r i
   value-is = value-held p P n m w s.holding.R columns
 
-  excess-is : (k i : ℕ) → k < n → i < n → excessAt m w r pivots k i ≡ excesses K m w M k i
+  excess-is : (k i : ℕ) → k < n → i < n → excess_at m w r pivots k i ≡ excesses K m w M k i
   excess-is = excess-held p P n m w columns s.holding.R found
 
-  height-now : (i : ℕ) → i < n → degreeAt pivots i ≡ height m (value K m w (M i))
+  height-now : (i : ℕ) → i < n → degree_at pivots i ≡ height m (value K m w (M i))
   height-now = height-is p P n m w columns s.holding.R found
 
   -- a row that has a pivot index is one of the first, which are not zero
@@ -86,7 +86,7 @@ module _ {p n m w rank : ℕ} {P : Prime p} {A : ℕ → Row (Zp p)} {r u v : Li
   first_some i l = let fits = s.tidy.ascends.rank-fits in omega (arith, value-is i (omega arith), s.tidy.ascends.some i l)
 
   -- from a row without one on there is no excess
-  pub rest-none : (k : ℕ) → k < n → index_at pivots k ≡ 0 → (a j : ℕ) → j < a → a < n → k ≤ a → excessAt m w r pivots a j ≡ 0
+  pub rest-none : (k : ℕ) → k < n → index_at pivots k ≡ 0 → (a j : ℕ) → j < a → a < n → k ≤ a → excess_at m w r pivots a j ≡ 0
   rest-none k lk none a j l la from =
       excess-is a j la (omega arith) ∙ zero-excess K n m w rank columns M s.tidy a j past la
     where
@@ -138,17 +138,17 @@ module _ {p n m w rank : ℕ} {P : Prime p} {A : ℕ → Row (Zp p)} {r u v : Li
     i-some : 0 < value K m w (M i)
     i-some = s.tidy.ascends.some i (omega (arith, i-before, k-first))
 
-    high : degreeAt pivots k ≡ suc (pivot-of K m w (M k)).deg
+    high : degree_at pivots k ≡ suc (pivot-of K m w (M k)).deg
     high = height-now k k-fits ∙ height-some m _ (s.tidy.ascends.some k k-first)
 
-    low : degreeAt pivots i ≡ suc (pivot-of K m w (M i)).deg
+    low : degree_at pivots i ≡ suc (pivot-of K m w (M i)).deg
     low = height-now i i-fits ∙ height-some m _ i-some
 
     -- the multiple of row i is no higher than row k
-    room : most - 1 + degreeAt pivots i ≤ degreeAt pivots k
+    room : most - 1 + degree_at pivots i ≤ degree_at pivots k
     room = omega (arith, high, low, removed.room, excess-now)
 
-    high-most : degreeAt pivots k ≤ w
+    high-most : degree_at pivots k ≤ w
     high-most = omega (arith, (found.row k k-fits).degree-is, height-most m w r k)
 
     -- so row i of U, shifted as it is, ends within the cells
@@ -222,7 +222,7 @@ module _ {p n m w rank : ℕ} {P : Prime p} {A : ℕ → Row (Zp p)} {r u v : Li
       pub pivots-on : Pivots n m (values_of m w r') pivots
       pivots-on = record { row = λ j lj. rw (same-values j lj) (found.row j lj) }
 
-      excess-on : (a j : ℕ) → a < n → j < n → excessAt m w r' pivots a j ≡ excesses K m w t'.R a j
+      excess-on : (a j : ℕ) → a < n → j < n → excess_at m w r' pivots a j ≡ excesses K m w t'.R a j
       excess-on = excess-held p P n m w columns holding'.R pivots-on
 
       pub before_on : ClearedTo m w k r' pivots

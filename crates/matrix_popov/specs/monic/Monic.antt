@@ -12,7 +12,7 @@ use Rattle.matrix_buffers.specs.Scaled.{RowScaled, ColumnScaled}
 use Rattle.matrix_pivots.specs.Pivot.{values_of, Pivots}
 use Rattle.matrix_pivots.specs.declared.pivot.Pivot.{Pivot}
 use Rattle.matrix_steps.specs.multiple.Asked.{PivotAsked}
-use Rattle.matrix_steps.specs.multiple.Factor.{leadingAt}
+use Rattle.matrix_steps.specs.multiple.Factor.{leading_at}
 
 -- row i of matrices that the buffers hold, with its pivot
 pub record RowToDivide (p reciprocal n m w i : ℕ) (pivot : Pivot) (r u v : List ℕ) : Type 0 where
@@ -24,15 +24,15 @@ pub record RowToDivide (p reciprocal n m w i : ℕ) (pivot : Pivot) (r u v : Lis
   pub led : 0 < pivot.index.0 → PivotAsked m w i pivot r
 
 -- c for a row of pivot index x > 0, and 1 for a zero row
-abbrev pub whereSome : ℕ → ℕ → ℕ
-whereSome zero c = 1
-whereSome (suc x) c = c
+abbrev pub where_some : ℕ → ℕ → ℕ
+where_some zero c = 1
+where_some (suc x) c = c
 
 -- row i of R and of U was divided by its leading coefficient c, that is multiplied by its inverse f, and column i of V was multiplied by c
 pub record RowDivided (p n m w i : ℕ) (pivot : Pivot) (r u v r' u' v' : List ℕ) : Type 0 where
   pub c : ℕ
   pub f : ℕ
-  pub c-is : c ≡ whereSome pivot.index.0 (leadingAt m w r i pivot)
+  pub c-is : c ≡ where_some pivot.index.0 (leading_at m w r i pivot)
   pub inverse : Inverse p c f
   pub r-divided : RowScaled p m w f i r r'
   pub u-divided : RowScaled p n (n * w) f i u u'

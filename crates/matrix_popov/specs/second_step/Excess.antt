@@ -1,8 +1,8 @@
 -- The excesses of the rows of a matrix in a buffer, by numbers.
 use Rattle.std.specs.Prelude.{◌≡◌, List, ℕ, ◌+◌, ◌*◌, ◌-◌, ◌≤◌, ◌<◌, get_or}
 use Rattle.theory_lists.specs.Part.{part}
-use Rattle.poly.specs.Polynomial.{usedPlaces}
-use Rattle.matrix_pivots.specs.Pivot.{zeroRow, index_at, degreeAt}
+use Rattle.poly.specs.Polynomial.{used_places}
+use Rattle.matrix_pivots.specs.Pivot.{zero_row, index_at, degree_at}
 use Rattle.matrix_pivots.specs.declared.pivot.Pivot.{Pivot}
 use Rattle.matrix_steps.specs.multiple.Asked.{CoefficientAsked}
 
@@ -11,17 +11,17 @@ abbrev pub cell_of : ℕ → ℕ → List ℕ → ℕ → ℕ → List ℕ
 cell_of m w r i j = part (i * (m * w) + j * w) w r
 
 -- "the degree of row k in i's pivot column, less i's pivot degree", by i's pivot: one more than it, and 0 where it is negative
-abbrev pub excessOf : ℕ → ℕ → List ℕ → ℕ → Pivot → ℕ
-excessOf m w r k x = usedPlaces (cell_of m w r k (x.index.0 - 1)) - (x.degree.0 - 1)
+abbrev pub excess_of : ℕ → ℕ → List ℕ → ℕ → Pivot → ℕ
+excess_of m w r k x = used_places (cell_of m w r k (x.index.0 - 1)) - (x.degree.0 - 1)
 
 -- the same for the rows of these pivots
-abbrev pub excessAt : ℕ → ℕ → List ℕ → List Pivot → ℕ → ℕ → ℕ
-excessAt m w r pivots k i = excessOf m w r k (get_or pivots i zeroRow)
+abbrev pub excess_at : ℕ → ℕ → List ℕ → List Pivot → ℕ → ℕ → ℕ
+excess_at m w r pivots k i = excess_of m w r k (get_or pivots i zero_row)
 
 -- row k, and the pivots of the rows before it, which are not zero
 pub record HighestAsked (m w k : ℕ) (r : List ℕ) (pivots : List Pivot) : Type 0 where
   pub before : k ≤ 8
-  pub rows : (i : ℕ) → i < k → CoefficientAsked m w k (index_at pivots i) (degreeAt pivots i) r
+  pub rows : (i : ℕ) → i < k → CoefficientAsked m w k (index_at pivots i) (degree_at pivots i) r
 
 -- "the greatest of these" and "the row that has it (the lowest such row)", of the rows before k with the excesses h: row `at` has
 -- the excess `most`, and where none has any, both are 0

@@ -14,14 +14,14 @@ use Rattle.theory_popov.specs.Carries.{Carries}
 use Rattle.poly.specs.residues.Modulus.{Ready}
 use Rattle.matrix_promises.specs.Holding.{Holding}
 use Rattle.matrix_buffers.specs.Bounds.{Bounds}
-use Rattle.matrix_pivots.specs.Pivot.{values_of, zeroRow, index_at, degreeAt, Pivots}
+use Rattle.matrix_pivots.specs.Pivot.{values_of, zero_row, index_at, degree_at, Pivots}
 use Rattle.matrix_pivots.specs.declared.pivot.Pivot.{Pivot}
 use Rattle.matrix_rows.specs.Asked.{Short}
-use Rattle.matrix_steps.specs.multiple.Factor.{coefficientAt, leadingAt, Divided}
+use Rattle.matrix_steps.specs.multiple.Factor.{coefficient_at, leading_at, Divided}
 use Rattle.matrix_steps.specs.multiple.Asked.{CoefficientAsked, PivotAsked}
 use Rattle.matrix_steps.specs.Subtraction.{Moved}
 use Rattle.matrix_steps.specs.Asked.{MoveAsked}
-use Rattle.matrix_popov.specs.second_step.Excess.{excessAt}
+use Rattle.matrix_popov.specs.second_step.Excess.{excess_at}
 
 -- row k has a term of x^e times the leading term of row i, whose pivot is `low`
 pub record TermAsked (p reciprocal m w k i : ℕ) (low : Pivot) (e : ℕ) (r : List ℕ) : Type 0 where
@@ -34,20 +34,20 @@ pub record TermAsked (p reciprocal m w k i : ℕ) (low : Pivot) (e : ℕ) (r : L
 -- "the multiple c·x^e of the row that has it […] that removes that term": c is the coefficient of that term, divided by the leading
 -- coefficient of row i
 abbrev pub Removes : (p m w k i : ℕ) (low : Pivot) (e : ℕ) (r : List ℕ) (x c f : ℕ) → Type 0
-Removes p m w k i low e r = Divided p (coefficientAt m w r k low.index.0 (low.degree.0 + e)) (leadingAt m w r i low) e
+Removes p m w k i low e r = Divided p (coefficient_at m w r k low.index.0 (low.degree.0 + e)) (leading_at m w r i low) e
 
 -- such a term, where that multiple of row i fits
 pub record RemoveAsked (p reciprocal n m w k i e : ℕ) (r u v : List ℕ) (pivots : List Pivot) : Type 0 where
   pub rows : n ≤ 8
-  pub term : TermAsked p reciprocal m w k i (get_or pivots i zeroRow) e r
-  pub i-short : Short w (degreeAt pivots i) m (spot m w i) r
-  pub k-most : degreeAt pivots k ≤ w
-  pub move : MoveAsked p n w k i e (n * w - e) (w + 1 - degreeAt pivots k) u v
+  pub term : TermAsked p reciprocal m w k i (get_or pivots i zero_row) e r
+  pub i-short : Short w (degree_at pivots i) m (spot m w i) r
+  pub k-most : degree_at pivots k ≤ w
+  pub move : MoveAsked p n w k i e (n * w - e) (w + 1 - degree_at pivots k) u v
 
 -- a step of the second kind: "subtract the multiple"
 abbrev pub SecondMove : (p n m w k i e : ℕ) (pivots : List Pivot) (r u v r' u' v' : List ℕ) → Type 0
 SecondMove p n m w k i e pivots r u v =
-    Moved p n m w k i (coefficientAt m w r k (index_at pivots i) (degreeAt pivots i + e)) (leadingAt m w r i (get_or pivots i zeroRow)) e r u v
+    Moved p n m w k i (coefficient_at m w r k (index_at pivots i) (degree_at pivots i + e)) (leading_at m w r i (get_or pivots i zero_row)) e r u v
 
 -- the buffers hold a state t that was carried from a bounded matrix A; the first `rank` rows of its R are not zero and ascend, the others
 -- are zero
@@ -70,7 +70,7 @@ pub record RemovingAsked (p reciprocal n m w : ℕ) (r u v : List ℕ) (pivots :
 
 -- the rows before k have no excess over earlier rows
 pub record ClearedTo (m w k : ℕ) (r : List ℕ) (pivots : List Pivot) : Type 0 where
-  pub none : (a j : ℕ) → j < a → a < k → excessAt m w r pivots a j ≡ 0
+  pub none : (a j : ℕ) → j < a → a < k → excess_at m w r pivots a j ≡ 0
 
 -- and row k, which is not zero, is the next
 pub record ClearAsked (p reciprocal n m w k : ℕ) (r u v : List ℕ) (pivots : List Pivot) : Type 0 where

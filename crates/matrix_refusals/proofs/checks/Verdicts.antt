@@ -11,7 +11,7 @@ use Rattle.matrix_buffers.specs.Bounds.{Bounds, Checked}
 use Rattle.matrix_buffers.proofs.Bounds.{cell-few}
 use Rattle.matrix_promises.specs.Answering.{Rule, Told}
 use Rattle.matrix_refusals.specs.Number.{Verdict}
-use Rattle.matrix_promises.specs.Refused.{Numbers, FirstWrong, numberRules, lengthRule}
+use Rattle.matrix_promises.specs.Refused.{Numbers, FirstWrong, number_rules, length_rule}
 use Rattle.matrix_refusals.specs.declared.Refusal.{Refusal}
 use Rattle.matrix_refusals.specs.declared.Check.{Check}
 use Rattle.matrix_refusals.specs.declared.Check.TheVariants.{Fine, Refused}
@@ -57,8 +57,8 @@ wrong-of-more {a} {r} {x} {y} {given = given} {wanted} first =
 
 -- so what is refused by the numbers and two lengths is refused by the numbers and all lengths
 of-more : {p n m d a r x y : ℕ} {given wanted : List ℕ} (further : List Rule) {k i : ℕ} → 0 < k
-    → Told (numberRules p n m d (lengthRule (a ∷ r ∷ []) (x ∷ y ∷ []) ∷ [])) k i
-    → Told (numberRules p n m d (lengthRule (a ∷ r ∷ given) (x ∷ y ∷ wanted) ∷ further)) k i
+    → Told (number_rules p n m d (length_rule (a ∷ r ∷ []) (x ∷ y ∷ []) ∷ [])) k i
+    → Told (number_rules p n m d (length_rule (a ∷ r ∷ given) (x ∷ y ∷ wanted) ∷ further)) k i
 of-more further some (inl f) = inl f
 of-more further some (inr (modulus, inl f)) = inr (modulus, inl f)
 of-more further some (inr (modulus, inr (shape, inl f))) = inr (modulus, inr (shape, inl f))
@@ -67,10 +67,10 @@ of-more further some (inr (modulus, inr (shape, inr (degree, inl (_, number, fir
 of-more further some (inr (modulus, inr (shape, inr (degree, inr (_, none))))) = absurd (omega (arith, none.0))
 
 pub verdict-of-more : {p n m d a r x y : ℕ} {given wanted : List ℕ} (further : List Rule) (c : Check) {e : Refusal} → c ≡ Refused e
-    → Verdict (numberRules p n m d (lengthRule (a ∷ r ∷ []) (x ∷ y ∷ []) ∷ [])) c
-    → Verdict (numberRules p n m d (lengthRule (a ∷ r ∷ given) (x ∷ y ∷ wanted) ∷ further)) (Refused e)
+    → Verdict (number_rules p n m d (length_rule (a ∷ r ∷ []) (x ∷ y ∷ []) ∷ [])) c
+    → Verdict (number_rules p n m d (length_rule (a ∷ r ∷ given) (x ∷ y ∷ wanted) ∷ further)) (Refused e)
 verdict-of-more {p} {n} {m} {d} {a} {r} {x} {y} further c {e} is said = of-more further (refusal-number e)
-    (subst (Verdict (numberRules p n m d (lengthRule (a ∷ r ∷ []) (x ∷ y ∷ []) ∷ []))) is said)
+    (subst (Verdict (number_rules p n m d (length_rule (a ∷ r ∷ []) (x ∷ y ∷ []) ∷ []))) is said)
 
 -- ## The parts one after the other
 
@@ -84,8 +84,8 @@ module _ (rules further : List Rule) {c : Check} (said : Verdict rules c) where
   verdict-then c' some is told = told-then rules further 0 _ _ some (subst (Verdict rules) is said) told
 
 -- where the checks of the numbers find nothing, these are in range
-pub numbers-fine : {p n m d : ℕ} {c : Check} → c ≡ Fine → Verdict (numberRules p n m d []) c → Numbers p n m d
-numbers-fine {p} {n} {m} {d} is said = (in-range [] refl (subst (Verdict (numberRules p n m d [])) is said)).0
+pub numbers-fine : {p n m d : ℕ} {c : Check} → c ≡ Fine → Verdict (number_rules p n m d []) c → Numbers p n m d
+numbers-fine {p} {n} {m} {d} is said = (in-range [] refl (subst (Verdict (number_rules p n m d [])) is said)).0
 
 -- so are n, m and d
 pub in_bounds : {p n m d : ℕ} → Numbers p n m d → Bounds n m (d + 1)

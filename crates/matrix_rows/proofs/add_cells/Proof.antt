@@ -6,7 +6,7 @@ use mathlib.Core.List.{List}
 use Prim.Native.Nat.{ℕ, ◌+◌, ◌*◌, ◌-◌, ◌%◌, ◌<◌}
 use lib.ListN.{get_or}
 use lib.Dec.{leb}
-use Rattle.theory_lists.specs.Where.{whereTrue}
+use Rattle.theory_lists.specs.Where.{where_true}
 use Rattle.theory_lists.specs.Place.{spaced}
 use Rattle.matrix_buffers.specs.Added.{raised, CellAdded}
 use Rattle.theory_lists.proofs.Place.{spaced-apart}
@@ -50,7 +50,7 @@ module _ (p reciprocal c e w top to from stride count : ℕ) (b₀ b : List ℕ)
 
   turn : (b' : List ℕ) → CellAdded p c e w (to + i * stride) (from + i * stride) b b b' → Adding p c e w to from stride count b₀ b' (i + 1)
   turn b' = writing-turn now li apart
-      (λ t lt. ap₂ (λ (x y : ℕ). (x + c * whereTrue (leb e t) y) % p) (target t lt) (source (t - e) (omega arith)))
+      (λ t lt. ap₂ (λ (x y : ℕ). (x + c * where_true (leb e t) y) % p) (target t lt) (source (t - e) (omega arith)))
 
 -- The first i cells are added to, and no other place has changed. The cells that are left fall.
 abbrev invariant-loop : tie.invariant-loop

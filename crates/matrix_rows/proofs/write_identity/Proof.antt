@@ -6,7 +6,7 @@ use Prim.Native.Nat.{ℕ, suc, ◌+◌, ◌*◌, ◌-◌, ◌≤◌, ◌<◌}
 use lib.ListN.{length, set, length-set}
 use lib.Seq.{get_or-set_same, get_or-set_other}
 use Rattle.theory_algebra.proofs.Cases.{case-le}
-use Rattle.theory_lists.proofs.Change.{length-imap, getD-imap-every}
+use Rattle.theory_lists.proofs.Change.{length-imap, get_or-imap-every}
 use Rattle.poly.specs.arithmetic.Operations.{zeros}
 use Rattle.theory_lists.specs.Place.{spot}
 use Rattle.matrix_buffers.specs.Diagonal.{Ones}
@@ -20,7 +20,7 @@ unfolding zeros
 cleared n w u₀ u size u-is = rw u-is (record {
   size = length-imap _ u₀ ∙ size;
   one = λ i li. absurd (omega arith);
-  others = λ x _. getD-imap-every _ u₀ x (λ _. refl);
+  others = λ x _. get_or-imap-every _ u₀ x (λ _. refl);
 })
 
 -- the ones of the rows before i are written

@@ -6,17 +6,17 @@ use native.Mathlib.Omega.{arith}
 use Rattle.theory_lists.proofs.Grid.{within}
 use Rattle.theory_lists.specs.Coefficients.{Coefficients}
 use Rattle.matrix_pivots.specs.declared.pivot.Pivot.{Pivot}
-use Rattle.matrix_steps.specs.multiple.Factor.{coefficientAt, leadingAt, Divided}
+use Rattle.matrix_steps.specs.multiple.Factor.{coefficient_at, leading_at, Divided}
 use Rattle.matrix_steps.specs.multiple.Asked.{CoefficientAsked, DivideAsked, PlanAsked}
 
 -- a coefficient of the matrix is a residue
-pub coefficient-below : {p m w i x h : ℕ} {r : List ℕ} → Coefficients p r → CoefficientAsked m w i x h r → coefficientAt m w r i x h < p
+pub coefficient-below : {p m w i x h : ℕ} {r : List ℕ} → Coefficients p r → CoefficientAsked m w i x h r → coefficient_at m w r i x h < p
 coefficient-below {m = m} {w = w} {x = x} {h = h} residues a = residues.below _
     (omega (arith, a.row, within (x - 1) (h - 1) m w (omega (arith, a.column, a.column-most)) (omega (arith, a.height, a.height-most))))
 
 -- so two leading coefficients of which the second is not 0 can be divided
 pub divide-asked : {p reciprocal m w l k : ℕ} {high low : Pivot} {r : List ℕ} → PlanAsked p reciprocal m w l k high low r
-    → DivideAsked p reciprocal (leadingAt m w r l high) (leadingAt m w r k low)
+    → DivideAsked p reciprocal (leading_at m w r l high) (leading_at m w r k low)
 divide-asked asked = record {
   ready = asked.ready;
   prime = asked.prime;

@@ -4,7 +4,7 @@ use Rattle.theory_algebra.specs.Prime.{Prime}
 use Rattle.theory_lists.specs.Coefficients.{Coefficients}
 use Rattle.poly.specs.residues.Modulus.{Ready}
 use Rattle.matrix_pivots.specs.declared.pivot.Pivot.{Pivot}
-use Rattle.matrix_steps.specs.multiple.Factor.{leadingAt}
+use Rattle.matrix_steps.specs.multiple.Factor.{leading_at}
 
 -- row i lies in r, and x and h are a column and a height
 pub record CoefficientAsked (m w i x h : ℕ) (r : List ℕ) : Type 0 where
@@ -25,7 +25,7 @@ pub record DivideAsked (p reciprocal a b : ℕ) : Type 0 where
 -- row i is not zero: it has the pivot x, and its leading coefficient is not 0
 pub record PivotAsked (m w i : ℕ) (x : Pivot) (r : List ℕ) : Type 0 where
   pub leading : CoefficientAsked m w i x.index.0 x.degree.0 r
-  pub nonzero : 0 < leadingAt m w r i x
+  pub nonzero : 0 < leading_at m w r i x
 
 -- two such rows, of which l is the higher
 pub record PlanAsked (p reciprocal m w l k : ℕ) (high low : Pivot) (r : List ℕ) : Type 0 where

@@ -4,12 +4,12 @@ use Rattle.theory_lists.specs.Place.{spot}
 use Rattle.matrix_pivots.specs.declared.pivot.Pivot.{Pivot}
 
 -- the coefficient of row i in column x, counted from 1, that has the height h: its degree is h - 1
-abbrev pub coefficientAt : ℕ → ℕ → List ℕ → ℕ → ℕ → ℕ → ℕ
-coefficientAt m w r i x h = get_or r (spot m w i (x - 1) (h - 1)) 0
+abbrev pub coefficient_at : ℕ → ℕ → List ℕ → ℕ → ℕ → ℕ → ℕ
+coefficient_at m w r i x h = get_or r (spot m w i (x - 1) (h - 1)) 0
 
 -- the leading coefficient of the pivot of row i
-abbrev pub leadingAt : ℕ → ℕ → List ℕ → ℕ → Pivot → ℕ
-leadingAt m w r i x = coefficientAt m w r i x.index.0 x.degree.0
+abbrev pub leading_at : ℕ → ℕ → List ℕ → ℕ → Pivot → ℕ
+leading_at m w r i x = coefficient_at m w r i x.index.0 x.degree.0
 
 -- c is a divided by b, f is -c, so that rows are only ever added to, and e is d
 pub record Divided (p a b d e c f : ℕ) : Type 0 where
@@ -20,4 +20,4 @@ pub record Divided (p a b d e c f : ℕ) : Type 0 where
 
 -- "Let e = D of l minus D of k, and c the leading coefficient of l's pivot divided by that of k's, mod p." The pivot of l is the high one.
 abbrev pub Factor : (p m w l k : ℕ) (high low : Pivot) (r : List ℕ) (e c f : ℕ) → Type 0
-Factor p m w l k high low r = Divided p (leadingAt m w r l high) (leadingAt m w r k low) (high.degree.0 - low.degree.0)
+Factor p m w l k high low r = Divided p (leading_at m w r l high) (leading_at m w r k low) (high.degree.0 - low.degree.0)

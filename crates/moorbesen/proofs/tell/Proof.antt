@@ -1,6 +1,6 @@
 use mathlib.Core.Path.{sym, ap, ◌∙◌}
 use borrow.Author.Rules.{rules}
-use Rattle.moorbesen.specs.Reply.{replyOf}
+use Rattle.moorbesen.specs.Reply.{reply_of}
 use Rattle.moorbesen.proofs.tell.Statement.{statement}
 use Rattle.moorbesen.proofs.tell.Tie as tie
 
@@ -20,10 +20,10 @@ returns : tie.Need-returns
 returns c =
     let numbered = c.before in
     (λ i. record { number = numbered.table-number.ensures i; place = c.table-place.ensures i; rank = 0; count = 0; rows = 0 })
-    ∙ ap replyOf (sym numbered.before.before.x.given.1)
+    ∙ ap reply_of (sym numbered.before.before.x.given.1)
 
 returns-2 : tie.Need-returns-2
-returns-2 c = ap replyOf (sym c.before.x2.given.1)
+returns-2 c = ap reply_of (sym c.before.x2.given.1)
 
 pub tell-spec : {M : Type 1} → statement M
 tell-spec =

@@ -1,6 +1,6 @@
 use mathlib.Core.Path.{sym, ap, ◌∙◌}
 use borrow.Author.Rules.{rules}
-use Rattle.moorbesen.specs.Reply.{determinantReplyOf}
+use Rattle.moorbesen.specs.Reply.{determinant_reply_of}
 use Rattle.moorbesen.proofs.tell_determinant.Statement.{statement}
 use Rattle.moorbesen.proofs.tell_determinant.Tie as tie
 
@@ -20,10 +20,10 @@ returns : tie.Need-returns
 returns c =
     let numbered = c.before in
     (λ i. record { number = numbered.table-number.ensures i; place = c.table-place.ensures i })
-    ∙ ap determinantReplyOf (sym numbered.before.before.x.given.1)
+    ∙ ap determinant_reply_of (sym numbered.before.before.x.given.1)
 
 returns-2 : tie.Need-returns-2
-returns-2 c = ap determinantReplyOf (sym c.enum_told.given.1)
+returns-2 c = ap determinant_reply_of (sym c.enum_told.given.1)
 
 pub tell-determinant-spec : {M : Type 1} → statement M
 tell-determinant-spec =

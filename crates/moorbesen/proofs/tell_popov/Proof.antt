@@ -1,6 +1,6 @@
 use mathlib.Core.Path.{sym, ap, ◌∙◌}
 use borrow.Author.Rules.{rules}
-use Rattle.moorbesen.specs.Reply.{popovReplyOf}
+use Rattle.moorbesen.specs.Reply.{popov_reply_of}
 use Rattle.moorbesen.proofs.tell_popov.Statement.{statement}
 use Rattle.moorbesen.proofs.tell_popov.Tie as tie
 
@@ -20,10 +20,10 @@ returns : tie.Need-returns
 returns c =
     let numbered = c.before in
     (λ i. record { number = numbered.table-number.ensures i; place = c.table-place.ensures i; rank = 0; first = 0; second = 0 })
-    ∙ ap popovReplyOf (sym numbered.before.before.x.given.1)
+    ∙ ap popov_reply_of (sym numbered.before.before.x.given.1)
 
 returns-2 : tie.Need-returns-2
-returns-2 c = ap popovReplyOf (sym c.before.x2.given.1)
+returns-2 c = ap popov_reply_of (sym c.before.x2.given.1)
 
 pub tell-popov-spec : {M : Type 1} → statement M
 tell-popov-spec =

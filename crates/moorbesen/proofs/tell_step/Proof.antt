@@ -1,6 +1,6 @@
 use mathlib.Core.Path.{sym, ap, ◌∙◌}
 use borrow.Author.Rules.{rules}
-use Rattle.moorbesen.specs.Reply.{stepReplyOf}
+use Rattle.moorbesen.specs.Reply.{step_reply_of}
 use Rattle.moorbesen.proofs.tell_step.Statement.{statement}
 use Rattle.moorbesen.proofs.tell_step.Tie as tie
 
@@ -17,10 +17,10 @@ tell-requires-2 : tie.Need-tell-requires-2
 tell-requires-2 c κs = search rules
 
 returns : tie.Need-returns
-returns c = c.tell.ensures ∙ ap stepReplyOf (sym c.before.before.x.given.1)
+returns c = c.tell.ensures ∙ ap step_reply_of (sym c.before.before.x.given.1)
 
 returns-2 : tie.Need-returns-2
-returns-2 c = c.tell2.ensures ∙ ap stepReplyOf (sym c.before.before.x2.given.1)
+returns-2 c = c.tell2.ensures ∙ ap step_reply_of (sym c.before.before.x2.given.1)
 
 pub tell-step-spec : {M : Type 1} → statement M
 tell-step-spec =

@@ -6,22 +6,22 @@ use native.Mathlib.Nat.{mod-lt, zero-mod}
 use native.Mathlib.Omega.{arith}
 use lib.ListN.{length}
 use Rattle.theory_lists.specs.Change.{imap}
-use Rattle.theory_lists.proofs.Change.{get_d_past, length-imap, getD-imap}
+use Rattle.theory_lists.proofs.Change.{get_d_past, length-imap, get_or-imap}
 use Rattle.poly.specs.residues.Modulus.{Ready}
 use Rattle.theory_lists.specs.Coefficients.{Coefficients}
-use Rattle.poly.specs.arithmetic.Operations.{shifted, plusMultiple, MultipleAsked, ProductAsked, scaledBy}
+use Rattle.poly.specs.arithmetic.Operations.{shifted, plus_multiple, MultipleAsked, ProductAsked, scaled_by}
 use Rattle.poly.proofs.arithmetic.Places.{product-past}
 
 -- what is a remainder at every place is made of residues
 remainders : (p : ℕ) (g : ℕ → ℕ → ℕ) (l : List ℕ) → 0 < p → Coefficients p (imap (λ i x. g i x % p) l)
-remainders p g l some = record { below = λ i h. rw (getD-imap _ l i (rw length-imap at h)) (mod-lt _ some) }
+remainders p g l some = record { below = λ i h. rw (get_or-imap _ l i (rw length-imap at h)) (mod-lt _ some) }
 
-pub scaled-coefficients : (p c : ℕ) (l : List ℕ) → 0 < p → Coefficients p (scaledBy p c l)
-unfolding scaledBy
+pub scaled-coefficients : (p c : ℕ) (l : List ℕ) → 0 < p → Coefficients p (scaled_by p c l)
+unfolding scaled_by
 scaled-coefficients p c l = remainders p (λ i x. c * x) l
 
-pub sum-coefficients : (p c e : ℕ) (a b : List ℕ) → 0 < p → Coefficients p (plusMultiple p c e b a)
-unfolding plusMultiple
+pub sum-coefficients : (p c e : ℕ) (a b : List ℕ) → 0 < p → Coefficients p (plus_multiple p c e b a)
+unfolding plus_multiple
 sum-coefficients p c e a b = remainders p (λ i x. x + c * shifted e b i) a
 
 -- a target with room for a whole source

@@ -18,9 +18,9 @@ use Rattle.theory_rings.specs.Series.{series}
 use Rattle.theory_rings.proofs.Series.{add_at, mul_at, zero-at, mono-mul-low, mono-mul-high, const-mul-at}
 use Rattle.theory_algebra.proofs.Sum.{sum-nil, sum-suc}
 use Rattle.theory_lists.specs.Total.{total}
-use Rattle.theory_lists.proofs.Change.{getD-imap-every}
+use Rattle.theory_lists.proofs.Change.{get_or-imap-every}
 use Rattle.poly.specs.Holds.{Holds}
-use Rattle.poly.specs.arithmetic.Operations.{shifted, plusMultiple, MultipleAsked, productAt, productOf, ProductAsked, scaledBy, zeros}
+use Rattle.poly.specs.arithmetic.Operations.{shifted, plus_multiple, MultipleAsked, product_at, product_of, ProductAsked, scaled_by, zeros}
 
 module _ (p : ℕ) (P : Prime p) where
   abbrev K : Field (Zp p)
@@ -29,8 +29,8 @@ module _ (p : ℕ) (P : Prime p) where
   -- c·x^e times b added to a, where nothing falls outside
   pub holds-multiple : (reciprocal e : ℕ) (c : Zp p) (a b : List ℕ) (f g : ℕ → Zp p) → Holds p a f → Holds p b g
       → MultipleAsked p reciprocal c.val e a b
-      → Holds p (plusMultiple p c.val e b a) ((series K.ring).add f ((series K.ring).mul (mono K.ring c e) g))
-  unfolding plusMultiple
+      → Holds p (plus_multiple p c.val e b a) ((series K.ring).add f ((series K.ring).mul (mono K.ring c e) g))
+  unfolding plus_multiple
   holds-multiple reciprocal e c a b f g hf hg pre = record { at = λ k. at k ∙ sym (sum_number k) }
     where
       -- what x^e times b has at k
@@ -58,8 +58,8 @@ module _ (p : ℕ) (P : Prime p) where
         | no below ↦ (let low : k < e = omega arith in simp (lt-leb e k low))
       ]
 
-      at : (k : ℕ) → get_or (plusMultiple p c.val e b a) k 0 ≡ (get_or a k 0 + c.val * shifted e b k) % p
-      at k = getD-imap-every _ a k (λ past. rw (none k past) (simp (N.mul-zero, N.zero-mod)))
+      at : (k : ℕ) → get_or (plus_multiple p c.val e b a) k 0 ≡ (get_or a k 0 + c.val * shifted e b k) % p
+      at k = get_or-imap-every _ a k (λ past. rw (none k past) (simp (N.mul-zero, N.zero-mod)))
 
   -- a sum of numbers is the sum of their residues
   total-number : (n : ℕ) (t : ℕ → ℕ) (s : ℕ → Zp p) → ((i : ℕ) → (s i).val ≡ t i % p) → (sum K.ring n s).val ≡ total n t % p
@@ -72,8 +72,8 @@ module _ (p : ℕ) (P : Prime p) where
       ∙ simp (N.mod-add-mod, N.add-mod-mod)
 
   -- the coefficient of a times b at degree k
-  pub product-number : (a b : List ℕ) (f g : ℕ → Zp p) → Holds p a f → Holds p b g → (k : ℕ) → ((series K.ring).mul f g k).val ≡ productAt a b k % p
-  unfolding productAt
+  pub product-number : (a b : List ℕ) (f g : ℕ → Zp p) → Holds p a f → Holds p b g → (k : ℕ) → ((series K.ring).mul f g k).val ≡ product_at a b k % p
+  unfolding product_at
   product-number a b f g hf hg k =
       ap (λ (x : Zp p). x.val) (mul_at K.ring f g k)
       ∙ total-number (suc k) (λ i. get_or a i 0 * get_or b (k - i) 0) (λ i. K.ring.mul (f i) (g (k - i)))
@@ -81,23 +81,23 @@ module _ (p : ℕ) (P : Prime p) where
 
   -- a times b, where nothing falls outside
   pub holds-product : (reciprocal : ℕ) (a b out : List ℕ) (f g : ℕ → Zp p) → Holds p a f → Holds p b g → ProductAsked p reciprocal a b out
-      → Holds p (productOf p a b out) ((series K.ring).mul f g)
-  unfolding productOf
+      → Holds p (product_of p a b out) ((series K.ring).mul f g)
+  unfolding product_of
   holds-product reciprocal a b out f g hf hg pre =
-      record { at = λ k. getD-imap-every _ out k (pre.room k) ∙ sym (product-number a b f g hf hg k) }
+      record { at = λ k. get_or-imap-every _ out k (pre.room k) ∙ sym (product-number a b f g hf hg k) }
 
   -- c times a
-  pub holds-scaled : (c : Zp p) (a : List ℕ) (f : ℕ → Zp p) → Holds p a f → Holds p (scaledBy p c.val a) ((series K.ring).mul (const K.ring c) f)
-  unfolding scaledBy
+  pub holds-scaled : (c : Zp p) (a : List ℕ) (f : ℕ → Zp p) → Holds p a f → Holds p (scaled_by p c.val a) ((series K.ring).mul (const K.ring c) f)
+  unfolding scaled_by
   holds-scaled c a f hf = record {
     at = λ k. at k
         ∙ sym (ap (λ (x : Zp p). x.val) (const-mul-at K.ring c f k) ∙ field-mul p P c (f k) ∙ ap (λ (x : ℕ). c.val * x % p) (sym (hf.at k)));
   }
     where
-      at : (k : ℕ) → get_or (scaledBy p c.val a) k 0 ≡ c.val * get_or a k 0 % p
-      at k = getD-imap-every _ a k (λ _. simp (N.mul-zero, N.zero-mod))
+      at : (k : ℕ) → get_or (scaled_by p c.val a) k 0 ≡ c.val * get_or a k 0 % p
+      at k = get_or-imap-every _ a k (λ _. simp (N.mul-zero, N.zero-mod))
 
   -- zeros hold the zero polynomial
   pub holds-zeros : (a : List ℕ) → Holds p (zeros a) (series K.ring).𝟘
   unfolding zeros
-  holds-zeros a = record { at = λ k. getD-imap-every _ a k (λ _. refl) ∙ sym (ap (λ (x : Zp p). x.val) (zero-at K.ring k) ∙ field-zero p P) }
+  holds-zeros a = record { at = λ k. get_or-imap-every _ a k (λ _. refl) ∙ sym (ap (λ (x : Zp p). x.val) (zero-at K.ring k) ∙ field-zero p P) }

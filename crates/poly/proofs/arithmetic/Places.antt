@@ -10,15 +10,15 @@ use lib.ListN.{length, get_or, take, drop}
 use lib.Seq.{ext_get_or, get_or-take, length-take-le}
 use borrow.Author.Tests.{le-leb, lt-leb}
 use Rattle.theory_lists.specs.Change.{imap}
-use Rattle.theory_lists.specs.Part.{part, onPart}
+use Rattle.theory_lists.specs.Part.{part, on_part}
 use Rattle.theory_lists.specs.Total.{total}
-use Rattle.theory_lists.proofs.Change.{length-imap, getD-imap, get_d_past}
-use Rattle.theory_lists.proofs.Part.{length_part, get_d_part, length-onPart, onPart-low, onPart-in, onPart-high}
+use Rattle.theory_lists.proofs.Change.{length-imap, get_or-imap, get_d_past}
+use Rattle.theory_lists.proofs.Part.{length_part, get_d_part, length-on_part, on_part-low, on_part-in, on_part-high}
 use Rattle.theory_lists.proofs.Last.{last-is}
 use Rattle.theory_lists.proofs.Total.{total-suc, total-more}
 use Rattle.poly.proofs.Ending.{ends-height}
-use Rattle.poly.specs.Polynomial.{usedPlaces}
-use Rattle.poly.specs.arithmetic.Operations.{shifted, plusTimes, plusMultiple, MultipleAsked, AddAsked, productAt}
+use Rattle.poly.specs.Polynomial.{used_places}
+use Rattle.poly.specs.arithmetic.Operations.{shifted, plus_times, plus_multiple, MultipleAsked, AddAsked, product_at}
 
 -- a product's coefficient at k
 module _ (a b : List ℕ) (k : ℕ) where
@@ -51,16 +51,16 @@ module _ (a b : List ℕ) (k : ℕ) where
   }
 
   -- and so are those after the last
-  pub summing-end : (i sum : ℕ) → Summing i sum → k + 1 - (k + 1 - length a) ≤ i → sum ≡ productAt a b k
-  unfolding productAt
+  pub summing-end : (i sum : ℕ) → Summing i sum → k + 1 - (k + 1 - length a) ≤ i → sum ≡ product_at a b k
+  unfolding product_at
   summing-end i sum s h =
       s.is
       ∙ sym (total-more i (suc k) term (omega (arith, s.to))
       (λ j l m. ap (λ (x : ℕ). x * get_or b (k - j) 0) (get_d_past a j (omega arith)) ∙ zero-mul (get_or b (k - j) 0)))
 
   -- where all places of a and of b are spent there is no term
-  pub product-past : length a + length b ≤ k + 1 → productAt a b k ≡ 0
-  unfolding productAt total
+  pub product-past : length a + length b ≤ k + 1 → product_at a b k ≡ 0
+  unfolding product_at total
   product-past h = total-more 0 (suc k) term (omega arith) (λ i _ l. elim (dec_le (length a) i) [
     | yes past ↦ ap (λ (x : ℕ). x * get_or b (k - i) 0) (get_d_past a i past) ∙ zero-mul (get_or b (k - i) 0)
     | no in-a ↦ ap (λ (x : ℕ). get_or a i 0 * x) (get_d_past b (k - i) (omega arith)) ∙ mul-zero (get_or a i 0)
@@ -83,47 +83,47 @@ module _ (p reciprocal c e : ℕ) (a b : List ℕ) (pre : MultipleAsked p recipr
   shifted-high i h = simp (le-leb e i h)
 
   -- x^e times b has no term below e, and none from the height of b on
-  outside : (i : ℕ) → (e ≤ i → e + usedPlaces b ≤ i) → shifted e b i ≡ 0
+  outside : (i : ℕ) → (e ≤ i → e + used_places b ≤ i) → shifted e b i ≡ 0
   outside i h = elim (dec_le e i) [
     | yes from ↦ (let past = h from in shifted-high i from ∙ (ends-height b).zeros (i - e) (omega arith))
     | no below ↦ (let low : i < e = omega arith in simp (lt-leb e i low))
   ]
 
   -- a list with the rule's value at every place
-  pub by-places : (l : List ℕ) → length l ≡ length a → ((i : ℕ) → i < length a → get_or l i 0 ≡ (get_or a i 0 + c * shifted e b i) % p) → l ≡ plusMultiple p c e b a
-  unfolding plusMultiple
-  by-places l same at = ext_get_or 0 l _ (same ∙ sym (length-imap _ a)) (λ i h. at i (omega arith) ∙ sym (getD-imap _ a i (omega arith)))
+  pub by-places : (l : List ℕ) → length l ≡ length a → ((i : ℕ) → i < length a → get_or l i 0 ≡ (get_or a i 0 + c * shifted e b i) % p) → l ≡ plus_multiple p c e b a
+  unfolding plus_multiple
+  by-places l same at = ext_get_or 0 l _ (same ∙ sym (length-imap _ a)) (λ i h. at i (omega arith) ∙ sym (get_or-imap _ a i (omega arith)))
 
-  pub nothing-added : usedPlaces b ≡ 0 → a ≡ plusMultiple p c e b a
+  pub nothing-added : used_places b ≡ 0 → a ≡ plus_multiple p c e b a
   nothing-added none = by-places a refl (λ i h. idle i h (outside i (λ from. omega arith)))
 
   -- n places, up to the last of b that is not zero: a has them all
-  module _ (n : ℕ) (n-is : n ≡ usedPlaces b) (some : 0 < n) where
+  module _ (n : ℕ) (n-is : n ≡ used_places b) (some : 0 < n) where
     add : List ℕ → List ℕ
-    add = imap (plusTimes p c (take n b))
+    add = imap (plus_times p c (take n b))
 
     pub fits : e + n ≤ length a
     fits = elim (dec_le (e + n) (length a)) [
       | yes in-a ↦ in-a
-      | no past ↦ absurd ((last-is (length b) (λ i. get_or b i 0)).top (omega arith) (pre.room (usedPlaces b - 1) (omega arith)))
+      | no past ↦ absurd ((last-is (length b) (λ i. get_or b i 0)).top (omega arith) (pre.room (used_places b - 1) (omega arith)))
     ]
 
     keeps : length (add (part e n a)) ≡ n
     unfolding add
     keeps = length-imap _ (part e n a) ∙ length_part e n a fits
 
-    place : (i : ℕ) → i < length a → get_or (onPart e n add a) i 0 ≡ rule i (get_or a i 0)
+    place : (i : ℕ) → i < length a → get_or (on_part e n add a) i 0 ≡ rule i (get_or a i 0)
     unfolding add
     place i h = elim (dec_le e i) [
-      | no low ↦ onPart-low e n a fits add keeps i (omega arith) ∙ idle i h (outside i (λ from. omega arith))
+      | no low ↦ on_part-low e n a fits add keeps i (omega arith) ∙ idle i h (outside i (λ from. omega arith))
       | yes from ↦ elim (dec_le (e + n) i) [
-        | yes past ↦ onPart-high e n a fits add keeps i past ∙ idle i h (outside i (λ from. omega arith))
+        | yes past ↦ on_part-high e n a fits add keeps i past ∙ idle i h (outside i (λ from. omega arith))
         | no before ↦
             (let here : i ≡ e + (i - e) = omega arith in
             let inside : i - e < n = omega arith in
-            ap (λ (j : ℕ). get_or (onPart e n add a) j 0) here
-            ∙ onPart-in e n a fits add keeps (i - e) inside
-            ∙ getD-imap _ (part e n a) (i - e) (omega (arith, length_part e n a fits))
+            ap (λ (j : ℕ). get_or (on_part e n add a) j 0) here
+            ∙ on_part-in e n a fits add keeps (i - e) inside
+            ∙ get_or-imap _ (part e n a) (i - e) (omega (arith, length_part e n a fits))
             ∙ ap₂ (λ (x y : ℕ). (x + c * y) % p)
             (get_d_part e n a fits (i - e) inside ∙ ap (λ (j : ℕ). get_or a j 0) (sym here))
             (get_or-take n b (i - e) 0 inside ∙ sym (shifted-high i from)))
@@ -146,7 +146,7 @@ module _ (p reciprocal c e : ℕ) (a b : List ℕ) (pre : MultipleAsked p recipr
       };
     }
 
-    pub part-back : (new : List ℕ) → new ≡ imap (plusTimes p c (take n b)) (take (e + n - e) (drop e a))
-        → take e a ++ (new ++ drop (e + n - e) (drop e a)) ≡ plusMultiple p c e b a
-    unfolding add onPart
-    part-back new New-is = rw (New-is, add-sub_cancel_left e n) (by-places _ (length-onPart e n a fits add keeps) place)
+    pub part-back : (new : List ℕ) → new ≡ imap (plus_times p c (take n b)) (take (e + n - e) (drop e a))
+        → take e a ++ (new ++ drop (e + n - e) (drop e a)) ≡ plus_multiple p c e b a
+    unfolding add on_part
+    part-back new New-is = rw (New-is, add-sub_cancel_left e n) (by-places _ (length-on_part e n a fits add keeps) place)

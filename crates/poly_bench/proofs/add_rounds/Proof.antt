@@ -4,7 +4,7 @@ use mathlib.Core.Path.{◌≡◌, refl, sym, ◌∙◌}
 use Prim.Native.Nat.{◌≤◌, ◌-◌}
 use lib.ListN.{length}
 use Rattle.theory_lists.specs.Coefficients.{Coefficients}
-use Rattle.poly.specs.arithmetic.Operations.{plusMultiple}
+use Rattle.poly.specs.arithmetic.Operations.{plus_multiple}
 use Rattle.poly.proofs.arithmetic.Asked.{sum-coefficients, with-room}
 use Rattle.poly_bench.specs.Rounds.{repeated}
 use Rattle.poly_bench.proofs.Repeat.{repeated-none, repeated-more, repeated-all}
@@ -13,7 +13,7 @@ use Rattle.poly_bench.proofs.add_rounds.Tie as tie
 
 -- The sum has been made i times, and the places are residues. The rounds that are left fall.
 abbrev invariant-loop : tie.invariant-loop
-invariant-loop a₀ b c e md rounds i₀ a i = (i ≤ rounds) × (length a ≡ length a₀) × Coefficients md.p a × (a ≡ repeated i (plusMultiple md.p c.0 e b) a₀)
+invariant-loop a₀ b c e md rounds i₀ a i = (i ≤ rounds) × (length a ≡ length a₀) × Coefficients md.p a × (a ≡ repeated i (plus_multiple md.p c.0 e b) a₀)
 
 abbrev decreases-loop : tie.decreases-loop
 decreases-loop a₀ b c e md rounds i₀ a i = rounds - i

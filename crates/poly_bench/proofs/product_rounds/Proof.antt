@@ -3,7 +3,7 @@ use native.Mathlib.Omega.{arith}
 use mathlib.Core.Path.{◌≡◌, refl, sym, ◌∙◌}
 use Prim.Native.Nat.{◌≤◌, ◌-◌}
 use lib.ListN.{length}
-use Rattle.poly.specs.arithmetic.Operations.{productOf}
+use Rattle.poly.specs.arithmetic.Operations.{product_of}
 use Rattle.poly_bench.specs.Rounds.{repeated}
 use Rattle.poly_bench.proofs.Repeat.{repeated-none, repeated-more, repeated-all}
 use Rattle.poly_bench.proofs.product_rounds.Statement.{statement}
@@ -11,7 +11,7 @@ use Rattle.poly_bench.proofs.product_rounds.Tie as tie
 
 -- The product has been written i times, or the places are as they were. The rounds that are left fall.
 abbrev invariant-loop : tie.invariant-loop
-invariant-loop a b out₀ md rounds i₀ out i = (i ≤ rounds) × (length out ≡ length out₀) × (out ≡ repeated i (productOf md.p a b) out₀)
+invariant-loop a b out₀ md rounds i₀ out i = (i ≤ rounds) × (length out ≡ length out₀) × (out ≡ repeated i (product_of md.p a b) out₀)
 
 abbrev decreases-loop : tie.decreases-loop
 decreases-loop a b out₀ md rounds i₀ out i = rounds - i

@@ -9,10 +9,10 @@ use lib.ListN.{length, take, drop, length-append}
 use lib.Seq.{length-take-le, take_at}
 use Rattle.matrix_buffers.proofs.Bounds.{matrix-few}
 use Rattle.matrix_refusals.specs.Number.{Verdict}
-use Rattle.matrix_promises.specs.Refused.{Numbers, coefficientRule}
+use Rattle.matrix_promises.specs.Refused.{Numbers, coefficient_rule}
 use Rattle.matrix_refusals.proofs.checks.Verdicts.{numbers-fine, in_bounds}
 use Rattle.printer_format.specs.Line.{Lines, read}
-use Rattle.printer_format.specs.File.{cellLines}
+use Rattle.printer_format.specs.File.{cell_lines}
 use Rattle.printer_files.specs.Input.{MatrixRead}
 use Rattle.printer_files.proofs.Table.{body-numbers, body-wrong, body-coefficient, body-matrix}
 use Rattle.printer_files.proofs.read_body.Statement.{statement}
@@ -26,7 +26,7 @@ abbrev places : tie.After-enum-told → ℕ
 places c = (start c).args.n * (start c).args.m * ((start c).args.d + 1)
 
 abbrev lines : tie.After-enum-told → Lines
-lines c = let args = (start c).args in cellLines args.n args.m args.d (drop args.at args.s.now)
+lines c = let args = (start c).args in cell_lines args.n args.m args.d (drop args.at args.s.now)
 
 -- past the first test the numbers are in range, and the matrix has room
 numbers : (c : tie.After-enum-told) → Numbers (start c).args.p (start c).args.n (start c).args.m (start c).args.d
@@ -136,7 +136,7 @@ same-length-2 c = search rules
 returns-3 : tie.Need-returns-3
 returns-3 c =
     body-coefficient (numbers (search rules)) (cells (search rules))
-    (subst (Verdict (coefficientRule _ _ ∷ [])) c.before.x2.given.1 c.before.before.before.check-coefficients.ensures)
+    (subst (Verdict (coefficient_rule _ _ ∷ [])) c.before.x2.given.1 c.before.before.before.check-coefficients.ensures)
 
 enum-told-3 : tie.Need-enum-told-3
 enum-told-3 c = search rules
@@ -147,7 +147,7 @@ same-length-3 c = search rules
 returns-4 : tie.Need-returns-4
 returns-4 c =
     body-matrix (numbers (search rules)) (cells (search rules))
-    (subst (Verdict (coefficientRule _ _ ∷ [])) c.enum-told3.given.1 c.before.before.check-coefficients.ensures)
+    (subst (Verdict (coefficient_rule _ _ ∷ [])) c.enum-told3.given.1 c.before.before.check-coefficients.ensures)
 
 pub read-body-spec : {M : Type 1} → statement M
 read-body-spec =

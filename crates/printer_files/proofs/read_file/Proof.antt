@@ -1,13 +1,13 @@
 use mathlib.Core.Path.{subst}
 use borrow.Author.Rules.{rules}
 use Rattle.printer_files.specs.Input.{HeadRead, HeadTaken}
-use Rattle.printer_format.specs.File.{headLines}
+use Rattle.printer_format.specs.File.{head_lines}
 use Rattle.printer_files.proofs.Table.{file-long, file-head, file-body}
 use Rattle.printer_files.proofs.read_file.Statement.{statement}
 use Rattle.printer_files.proofs.read_file.Tie as tie
 
 returns : tie.Need-returns
-returns c = file-long (headLines c.before.before.before.args.s.now) c.if1.true
+returns c = file-long (head_lines c.before.before.before.args.s.now) c.if1.true
 
 read-head-requires : tie.Need-read-head-requires
 read-head-requires c κs = search rules
@@ -36,7 +36,7 @@ start c = c.before.before.before.before.before.before
 
 -- the head's numbers
 taken : (c : tie.After-p) → let s = (start c).args.s.now in let found = c.p.given.0 in
-    HeadTaken (headLines s) s found.0 found.1.0 found.1.1.0 found.1.1.1.0 found.1.1.1.1.0
+    HeadTaken (head_lines s) s found.0 found.1.0 found.1.1.0 found.1.1.1.0 found.1.1.1.1.0
 taken c = subst (HeadRead _ _) c.p.given.1 c.before.before.read_head.ensures
 
 read-body-requires : tie.Need-read-body-requires
@@ -45,7 +45,7 @@ read-body-requires c κs = record { inside = (taken c.before.before).inside; pla
 returns-2 : tie.Need-returns-2
 returns-2 c = let start : tie.Start = search rules in
     let call = c.before.before.before in
-    file-head (headLines start.args.s.now) call.before.if1.false
+    file-head (head_lines start.args.s.now) call.before.if1.false
     (subst (HeadRead _ _) c.before.line.given.1 call.read_head.ensures)
 
 same_length : tie.Need-same-length

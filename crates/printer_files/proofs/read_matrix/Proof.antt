@@ -5,7 +5,7 @@ use native.Mathlib.Omega.{arith}
 use Prim.Native.Nat.{◌*◌, ◌≤◌}
 use lib.ListN.{drop}
 use Rattle.printer_format.specs.Line.{Lines}
-use Rattle.printer_format.specs.File.{matrixLines}
+use Rattle.printer_format.specs.File.{matrix_lines}
 use Rattle.printer_reading.specs.Read.{CellsRead, TookCells, Missed}
 use Rattle.printer_files.proofs.Ending.{ended-wrong, ended-extra, ended_here}
 use Rattle.printer_files.proofs.read_matrix.Statement.{statement}
@@ -20,7 +20,7 @@ few c = mul-le-mul {n₁ = (start c).args.n} {m₁ = (start c).args.m} {n₂ = 8
 
 -- the lines of the matrix, and what was found of them: one is wrong, or all were read
 abbrev matrix : tie.After-read-cells → Lines
-matrix c = let args = (start c).args in matrixLines args.n args.m args.d (drop args.at args.s.now)
+matrix c = let args = (start c).args in matrix_lines args.n args.m args.d (drop args.at args.s.now)
 
 missed : (c : tie.After-c) → let call = c.before.before.before.before in
     Missed (matrix call) ((start call).args.n * (start call).args.m) c.c.given.0.0

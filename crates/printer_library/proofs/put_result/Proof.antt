@@ -5,7 +5,7 @@ use borrow.Author.Rules.{rules}
 use native.Mathlib.Omega.{arith}
 use lib.ListN.{length, take, drop}
 use lib.Seq.{length-take-le, length_front, take_at}
-use Rattle.printer_format.specs.Answer.{answerText, outputRoom}
+use Rattle.printer_format.specs.Answer.{answer_text, output_room}
 use Rattle.printer_format.proofs.Room.{Answerable, answer-length}
 use Rattle.printer_library.specs.Asked.{Determined}
 use Rattle.printer_library.proofs.Answers.{determinant-few, result-answerable, output}
@@ -51,7 +51,7 @@ answerable : (c : tie.After-determine) → let args = (start (made c)).args in
 answerable c = result-answerable (start (made c)).requires (length-take-le _ _ (after-within c)) (found c) (omega arith) (omega arith)
 
 fits : (c : tie.After-determine) → let args = (start (made c)).args in
-    length (answerText args.rank args.count args.n args.m args.d args.r.now (front c)) ≤ outputRoom
+    length (answer_text args.rank args.count args.n args.m args.d args.r.now (front c)) ≤ output_room
 fits c = answer-length _ _ _ _ _ _ _ (answerable c)
 
 polynomial-requires : tie.Need-polynomial-requires

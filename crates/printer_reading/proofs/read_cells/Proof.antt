@@ -5,7 +5,7 @@ use native.Mathlib.Nat.{mul-le-mul, mul-le-mul_right}
 use native.Mathlib.Omega.{arith}
 use Prim.Native.Nat.{◌+◌, ◌*◌, ◌-◌, ◌≤◌}
 use lib.ListN.{length, drop}
-use Rattle.printer_format.specs.Line.{bytes, cellKey, readLine}
+use Rattle.printer_format.specs.Line.{bytes, cell_key, read_line}
 use Rattle.printer_reading.specs.Read.{LineRead}
 use Rattle.printer_reading.proofs.Storing.{Storing, storing-start, storing-end, storing-room, storing-part, storing-wrong, storing-size, storing-turn}
 use Rattle.printer_reading.proofs.read_cells.Statement.{statement}
@@ -13,7 +13,7 @@ use Rattle.printer_reading.proofs.read_cells.Tie as tie
 
 abbrev invariant-loop : tie.invariant-loop
 invariant-loop s at n m d room₀ count width i₀ c₀ a₀ room i c a =
-    Storing (λ c. readLine (cellKey (bytes "a11=") m c) (d + 1)) s at (n * m) (d + 1) i c a room
+    Storing (λ c. read_line (cell_key (bytes "a11=") m c) (d + 1)) s at (n * m) (d + 1) i c a room
 
 abbrev decreases-loop : tie.decreases-loop
 decreases-loop s at n m d room₀ count width i₀ c₀ a₀ room i c a = count - c
@@ -32,8 +32,8 @@ turn c = c.before.before.before.before
 
 -- what was read of the next line
 line_read : (c : tie.After-take-line invariant-loop decreases-loop) → let args = (start (turn c)).args in let s = args.s.now in
-    let key = cellKey (bytes "a11=") args.m (turn c).before.loop.c in
-    LineRead (readLine key (args.d + 1) (drop (turn c).before.loop.i s)) s c.take-line.new.1.1.1.0 c.take-line.result
+    let key = cell_key (bytes "a11=") args.m (turn c).before.loop.c in
+    LineRead (read_line key (args.d + 1) (drop (turn c).before.loop.i s)) s c.take-line.new.1.1.1.0 c.take-line.result
 line_read c =
     let size = storing-part _ _ _ _ _ _ _ _ _ (turn c).before.loop.invariant (turn c).loop-test.true in
     rw (c.before.before.before.key-of-cell.ensures, size) at c.take-line.ensures

@@ -7,7 +7,7 @@ use native.Mathlib.Omega.{arith}
 use mathlib.Core.List.{List}
 use Prim.Native.Nat.{ℕ, ◌-◌}
 use lib.ListN.{length, drop}
-use Rattle.printer_format.specs.Number.{digitsOf, is_plain}
+use Rattle.printer_format.specs.Number.{digits_of, is_plain}
 use Rattle.printer_format.proofs.Number.{too_few, too_many, number-bad}
 use Rattle.printer_reading.specs.Read.{DigitsAt}
 use Rattle.printer_reading.proofs.Digits.{digits-inside, no-plain-number, no-small-number, number-here}
@@ -16,7 +16,7 @@ use Rattle.printer_reading.proofs.read_number.Tie as tie
 
 -- the digits that stand at the index
 abbrev word : tie.After-digits-end → List ℕ
-word c = digitsOf (drop c.before.before.args.at c.before.before.args.s.now)
+word c = digits_of (drop c.before.before.args.at c.before.before.args.s.now)
 
 count : (c : tie.After-digits-end) → c.digits-end.result - c.before.before.args.at ≡ length (word c)
 count c = omega (arith, c.digits-end.ensures)

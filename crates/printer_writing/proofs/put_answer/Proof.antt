@@ -1,6 +1,6 @@
 use mathlib.Core.List.{◌++◌}
 use borrow.Author.Rules.{rules}
-use Rattle.printer_format.specs.Answer.{resultText, determinantText}
+use Rattle.printer_format.specs.Answer.{result_text, determinant_text}
 use Rattle.printer_writing.specs.Wrote.{Room}
 use Rattle.printer_writing.proofs.Writing.{wrote_then, first-room, next-room}
 use Rattle.printer_writing.proofs.put_answer.Statement.{statement}
@@ -12,7 +12,7 @@ start c = c.before.before.before.before.before
 
 -- room for the second and the third part after the first
 later : (c : tie.After-put-counts) → let args = (start c).args in
-    let rest = resultText args.n args.m args.d args.r.now ++ determinantText args.n args.m args.det.now in
+    let rest = result_text args.n args.m args.d args.r.now ++ determinant_text args.n args.m args.det.now in
     Room c.put-counts.new.0 c.put-counts.result rest
 later c = search (rules, next-room)
 

@@ -5,16 +5,16 @@ use mathlib.Core.Logic.{◌≢◌}
 use borrow.Author.Rules.{rules}
 use borrow.Author.Tests.{eq-eqb, ne_eqb}
 use Rattle.printer_format.specs.Line.{bytes, line}
-use Rattle.printer_format.specs.Answer.{determinantText}
+use Rattle.printer_format.specs.Answer.{determinant_text}
 use Rattle.printer_writing.specs.Wrote.{Room}
 use Rattle.printer_writing.proofs.Writing.{wrote_none, wrote_as}
 use Rattle.printer_writing.proofs.put_determinant.Statement.{statement}
 use Rattle.printer_writing.proofs.put_determinant.Tie as tie
 
-none : (n m : ℕ) (det : List ℕ) → n ≢ m → [] ≡ determinantText n m det
+none : (n m : ℕ) (det : List ℕ) → n ≢ m → [] ≡ determinant_text n m det
 none n m det ne = simp (ne_eqb n m ne)
 
-there : (n m : ℕ) (det : List ℕ) → n ≡ m → line (bytes "det=") det ≡ determinantText n m det
+there : (n m : ℕ) (det : List ℕ) → n ≡ m → line (bytes "det=") det ≡ determinant_text n m det
 there n m det e = simp (eq-eqb n m e)
 
 returns : tie.Need-returns

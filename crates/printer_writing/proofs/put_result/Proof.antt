@@ -7,8 +7,8 @@ use native.Mathlib.Numerals.{add-one}
 use native.Mathlib.Omega.{arith}
 use lib.ListN.{length, drop}
 use Rattle.theory_lists.proofs.Grid.{line-end}
-use Rattle.printer_format.specs.Line.{bytes, cellKey, lines}
-use Rattle.printer_format.specs.Answer.{resultText}
+use Rattle.printer_format.specs.Line.{bytes, cell_key, lines}
+use Rattle.printer_format.specs.Answer.{result_text}
 use Rattle.printer_writing.specs.Wrote.{Room}
 use Rattle.printer_writing.proofs.Writing.{Begun, begun-start, begun_more, begun-length, begun-room, begun-end, first-room}
 use Rattle.printer_writing.proofs.Turns.{lines_next, lines_end}
@@ -17,7 +17,7 @@ use Rattle.printer_writing.proofs.put_result.Tie as tie
 
 abbrev invariant-loop : tie.invariant-loop
 invariant-loop out₀ at n m d r count width i₀ c₀ a₀ out i c a =
-    (a ≡ c * (d + 1)) × Begun out₀ at (resultText n m d r) (lines (cellKey (bytes "r11=") m) (d + 1) (n * m - c) c (drop a r)) out i
+    (a ≡ c * (d + 1)) × Begun out₀ at (result_text n m d r) (lines (cell_key (bytes "r11=") m) (d + 1) (n * m - c) c (drop a r)) out i
 
 abbrev decreases-loop : tie.decreases-loop
 decreases-loop out₀ at n m d r count width i₀ c₀ a₀ out i c a = count - c

@@ -1,7 +1,7 @@
 use mathlib.Core.Path.{subst}
 use Rattle.poly.proofs.residues.Range.{in-range}
 use Rattle.matrix_refusals.specs.Number.{Verdict}
-use Rattle.matrix_promises.specs.Refused.{determinantTable}
+use Rattle.matrix_promises.specs.Refused.{determinant_table}
 use Rattle.matrix_promises.specs.Services.{ShortCall}
 use Rattle.matrix_refusals.proofs.Answering.{answer-refused}
 use Rattle.matrix.proofs.Service.{DeterminantPassed, determinant-order, determinant-asked, determinant-answered}
@@ -18,7 +18,7 @@ call c = let x = (start c).args in record { p = x.p; n = x.n; m = x.m; d = x.d; 
 
 -- past the checks all is in order
 known : (c : tie.After-enum-told) → DeterminantPassed (call c)
-known c = record { told = subst (Verdict (determinantTable _ _ _ _ _ _)) c.enum_told.given.1 c.before.before.check-determinant.ensures }
+known c = record { told = subst (Verdict (determinant_table _ _ _ _ _ _)) c.enum_told.given.1 c.before.before.check-determinant.ensures }
 
 check-determinant-requires : tie.Need-check-determinant-requires
 check-determinant-requires c κs = search rules

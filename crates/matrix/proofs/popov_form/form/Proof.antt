@@ -1,7 +1,7 @@
 use native.Mathlib.Omega.{arith}
 use mathlib.Core.Path.{subst}
 use Rattle.poly.proofs.residues.Range.{in-range}
-use Rattle.matrix_promises.specs.Refused.{matrixTable}
+use Rattle.matrix_promises.specs.Refused.{matrix_table}
 use Rattle.matrix_promises.specs.Services.{WholeCall}
 use Rattle.matrix_refusals.specs.Number.{Verdict}
 use Rattle.matrix_refusals.proofs.Answering.{answer-refused}
@@ -20,7 +20,7 @@ call c = let x = (start c).args in
 
 -- past the checks all is in order
 known : (c : tie.After-enum-told) → Passed (call c)
-known c = record { told = subst (Verdict (matrixTable _ _ _ _ _ _ _)) c.enum_told.given.1 c.before.before.check-reduction.ensures }
+known c = record { told = subst (Verdict (matrix_table _ _ _ _ _ _ _)) c.enum_told.given.1 c.before.before.check-reduction.ensures }
 
 -- where the reduction was made
 abbrev worked : tie.After-finish → tie.After-work

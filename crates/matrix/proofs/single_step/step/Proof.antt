@@ -2,7 +2,7 @@ use native.Mathlib.Omega.{arith}
 use mathlib.Core.Path.{subst}
 use Rattle.poly.proofs.residues.Range.{in-range}
 use Rattle.matrix_refusals.specs.Number.{Verdict}
-use Rattle.matrix_promises.specs.Refused.{matrixTable}
+use Rattle.matrix_promises.specs.Refused.{matrix_table}
 use Rattle.matrix_promises.specs.Services.{ShortCall}
 use Rattle.matrix_refusals.proofs.checks.Verdicts.{checked}
 use Rattle.matrix_refusals.proofs.Answering.{answer-refused}
@@ -20,7 +20,7 @@ call c = let x = (start c).args in record { p = x.p; n = x.n; m = x.m; d = x.d; 
 
 -- past the checks all is in order
 known : (c : tie.After-enum-told) → StepPassed (call c)
-known c = record { told = subst (Verdict (matrixTable _ _ _ _ _ _ _)) c.enum_told.given.1 c.before.before.check-step.ensures }
+known c = record { told = subst (Verdict (matrix_table _ _ _ _ _ _ _)) c.enum_told.given.1 c.before.before.check-step.ensures }
 
 check-step-requires : tie.Need-check-step-requires
 check-step-requires c κs = search rules

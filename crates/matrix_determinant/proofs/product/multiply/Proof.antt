@@ -2,7 +2,7 @@ use borrow.Author.Rules.{rules}
 use native.Mathlib.Omega.{arith}
 use mathlib.Core.Path.{sym, ap₂, ◌∙◌}
 use lib.Seq.{length-take-le}
-use Rattle.poly.specs.arithmetic.Operations.{scaledBy}
+use Rattle.poly.specs.arithmetic.Operations.{scaled_by}
 use Rattle.matrix_determinant.specs.SignedProduct.{signed_product}
 use Rattle.matrix_determinant.proofs.SignedProduct.{used-asked, made-room, made-whole}
 use Rattle.matrix_determinant.proofs.product.multiply.Statement.{statement}
@@ -62,7 +62,7 @@ returns c =
     let used : tie.After-used2 = search rules in
     let start : tie.Start = search rules in
     scaled.scale.ensures
-    ∙ ap₂ (scaledBy _) scaled.before.signed-one.ensures
+    ∙ ap₂ (scaled_by _) scaled.before.signed-one.ensures
     (copied.copy.ensures ∙ made-whole used.before.used.ensures.0 used.used2.ensures.0 start.pre _ (search rules) _ made.product.ensures)
 
 pub multiply-spec : {M : Type 1} → statement M

@@ -2,13 +2,13 @@
 use borrow.Author.Rules.{rules}
 use native.Mathlib.Omega.{arith}
 use Prim.Native.Nat.{◌-◌}
-use Rattle.matrix_pivots.specs.Pivot.{degreeAt}
+use Rattle.matrix_pivots.specs.Pivot.{degree_at}
 use Rattle.matrix_pivots.proofs.Summing.{Summing, summing_start, summing-fits, summing_on, summing-end}
 use Rattle.matrix_pivots.proofs.pivot.degree_sum.Statement.{statement}
 use Rattle.matrix_pivots.proofs.pivot.degree_sum.Tie as tie
 
 abbrev invariant-loop : tie.invariant-loop
-invariant-loop n pivots sum₀ i₀ sum i = Summing n (λ j. degreeAt pivots j - 1) sum i
+invariant-loop n pivots sum₀ i₀ sum i = Summing n (λ j. degree_at pivots j - 1) sum i
 
 abbrev decreases-loop : tie.decreases-loop
 decreases-loop n pivots sum₀ i₀ sum i = n - i

@@ -6,7 +6,7 @@ use Prim.Native.Nat.{ℕ, ◌+◌, ◌-◌, ◌*◌, ◌≤◌}
 use native.Mathlib.Nat.{add-sub_cancel_left}
 use lib.ListN.{length, take, drop}
 use Rattle.theory_lists.proofs.Grid.{line-end}
-use Rattle.poly.specs.Polynomial.{usedPlaces}
+use Rattle.poly.specs.Polynomial.{used_places}
 use Rattle.matrix_steps.specs.multiple.Asked.{CoefficientAsked}
 use Rattle.matrix_popov.specs.second_step.Excess.{cell_of}
 use Rattle.matrix_popov.proofs.second_step.excess.Statement.{statement}
@@ -17,8 +17,8 @@ inside : {m w k x h j : ℕ} {r : List ℕ} → CoefficientAsked m w k x h r →
 inside {m} {w} {k} {x} {j = j} asked is = omega (arith, asked.row, line-end j m w (omega (arith, asked.column, asked.column-most)))
 
 -- what is lent is the cell
-places-are : (m w k j : ℕ) (r : List ℕ) → let s = k * (m * w) + j * w in usedPlaces (take (s + w - s) (drop s r)) ≡ usedPlaces (cell_of m w r k j)
-places-are m w k j r = let s = k * (m * w) + j * w in ap (λ (n : ℕ). usedPlaces (take n (drop s r))) (add-sub_cancel_left s w)
+places-are : (m w k j : ℕ) (r : List ℕ) → let s = k * (m * w) + j * w in used_places (take (s + w - s) (drop s r)) ≡ used_places (cell_of m w r k j)
+places-are m w k j r = let s = k * (m * w) + j * w in ap (λ (n : ℕ). used_places (take n (drop s r))) (add-sub_cancel_left s w)
 
 mul-start : tie.Need-overflow-mul-start
 mul-start c = search rules
@@ -78,7 +78,7 @@ returns c =
     c.excess.ensures
     ∙ ap (λ (x : ℕ). x - (args.pivot.degree.0 - 1)) (used.used.ensures.0
     ∙ places-are args.m args.w args.k call.column.result r
-    ∙ ap (λ (j : ℕ). usedPlaces (cell_of args.m args.w r args.k j)) call.column.ensures)
+    ∙ ap (λ (j : ℕ). used_places (cell_of args.m args.w r args.k j)) call.column.ensures)
 
 pub excess-spec : {M : Type 1} → statement M
 excess-spec =

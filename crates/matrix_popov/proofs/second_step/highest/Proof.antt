@@ -4,13 +4,13 @@ use native.Mathlib.Omega.{arith}
 use mathlib.Core.Path.{◌≡◌}
 use mathlib.Core.Logic.{⊎_elim}
 use Prim.Native.Nat.{◌-◌, ◌≤◌}
-use Rattle.matrix_popov.specs.second_step.Excess.{excessAt, IsHighest}
+use Rattle.matrix_popov.specs.second_step.Excess.{excess_at, IsHighest}
 use Rattle.matrix_popov.proofs.second_step.Searching.{highest-start, highest-new, highest-old}
 use Rattle.matrix_popov.proofs.second_step.highest.Statement.{statement}
 use Rattle.matrix_popov.proofs.second_step.highest.Tie as tie
 
 abbrev invariant-loop : tie.invariant-loop
-invariant-loop r k m w pivots at₀ most₀ i₀ at most i = (i ≤ k) × IsHighest i (excessAt m w r pivots k) at most
+invariant-loop r k m w pivots at₀ most₀ i₀ at most i = (i ≤ k) × IsHighest i (excess_at m w r pivots k) at most
 
 abbrev decreases-loop : tie.decreases-loop
 decreases-loop r k m w pivots at₀ most₀ i₀ at most i = k - i

@@ -4,7 +4,7 @@ use mathlib.Core.Path.{refl}
 use mathlib.Core.Logic.{inl, inr}
 use mathlib.Core.List.{[], ◌∷◌}
 use Rattle.matrix_buffers.proofs.Bounds.{row-few, matrix-few}
-use Rattle.matrix_promises.specs.Refused.{Numbers, numberRules, squareRule, lengthRule, coefficientRule}
+use Rattle.matrix_promises.specs.Refused.{Numbers, number_rules, square_rule, length_rule, coefficient_rule}
 use Rattle.matrix_promises.proofs.Tables.{past-numbers}
 use Rattle.matrix_refusals.proofs.checks.Verdicts.{verdict-first, verdict-then, numbers-fine, determinant-few, in_bounds}
 use Rattle.matrix_refusals.proofs.checks.check_determinant.Statement.{statement}
@@ -26,7 +26,7 @@ enum-known-x c = search rules
 
 returns : tie.Need-returns
 returns c =
-    verdict-first (numberRules _ _ _ _ []) (squareRule _ _ ∷ lengthRule _ _ ∷ coefficientRule _ _ ∷ [])
+    verdict-first (number_rules _ _ _ _ []) (square_rule _ _ ∷ length_rule _ _ ∷ coefficient_rule _ _ ∷ [])
     c.before.before.before.check-numbers.ensures c.before.x.given.1
 
 enum_told : tie.Need-enum-told
@@ -34,7 +34,7 @@ enum_told c = search rules
 
 returns-2 : tie.Need-returns-2
 returns-2 c =
-    past-numbers (squareRule _ _ ∷ lengthRule _ _ ∷ coefficientRule _ _ ∷ []) (numbers c.before) (inl (c.if1.true, refl, refl))
+    past-numbers (square_rule _ _ ∷ length_rule _ _ ∷ coefficient_rule _ _ ∷ []) (numbers c.before) (inl (c.if1.true, refl, refl))
 
 add-check-lengths : tie.Need-overflow-add-check-lengths
 add-check-lengths c = omega (arith, (numbers c.before).degree)
@@ -60,9 +60,9 @@ enum-known-x-2 c = search rules
 returns-3 : tie.Need-returns-3
 returns-3 c =
     let compared = c.before.before.before in
-    past-numbers (squareRule _ _ ∷ lengthRule _ _ ∷ coefficientRule _ _ ∷ []) (numbers compared.before.before) (inr (
+    past-numbers (square_rule _ _ ∷ length_rule _ _ ∷ coefficient_rule _ _ ∷ []) (numbers compared.before.before) (inr (
       compared.before.if1.false,
-      verdict-first (lengthRule _ _ ∷ []) (coefficientRule _ _ ∷ []) compared.check-lengths.ensures c.before.x2.given.1,
+      verdict-first (length_rule _ _ ∷ []) (coefficient_rule _ _ ∷ []) compared.check-lengths.ensures c.before.x2.given.1,
     ))
 
 enum-told-2 : tie.Need-enum-told-2
@@ -74,9 +74,9 @@ check-coefficients-requires c κs = search rules
 returns-4 : tie.Need-returns-4
 returns-4 c =
     let compared = c.before.before.before in
-    past-numbers (squareRule _ _ ∷ lengthRule _ _ ∷ coefficientRule _ _ ∷ []) (numbers compared.before.before) (inr (
+    past-numbers (square_rule _ _ ∷ length_rule _ _ ∷ coefficient_rule _ _ ∷ []) (numbers compared.before.before) (inr (
       compared.before.if1.false,
-      verdict-then (lengthRule _ _ ∷ []) (coefficientRule _ _ ∷ []) compared.check-lengths.ensures c.check-coefficients.result
+      verdict-then (length_rule _ _ ∷ []) (coefficient_rule _ _ ∷ []) compared.check-lengths.ensures c.check-coefficients.result
           (omega arith, tt) c.before.enum-told2.given.1 c.check-coefficients.ensures,
     ))
 

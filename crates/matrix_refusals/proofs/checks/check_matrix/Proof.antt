@@ -2,7 +2,7 @@ use native.Mathlib.Omega.{arith}
 use borrow.Author.Rules.{rules}
 use mathlib.Core.List.{[], ◌∷◌}
 use Rattle.matrix_buffers.proofs.Bounds.{row-few, matrix-few}
-use Rattle.matrix_promises.specs.Refused.{Numbers, numberRules, lengthRule}
+use Rattle.matrix_promises.specs.Refused.{Numbers, number_rules, length_rule}
 use Rattle.matrix_promises.proofs.Tables.{past-numbers}
 use Rattle.matrix_refusals.proofs.checks.Verdicts.{verdict-first, numbers-fine, in_bounds}
 use Rattle.matrix_refusals.proofs.checks.check_matrix.Statement.{statement}
@@ -20,7 +20,7 @@ enum-known-x c = search rules
 
 returns : tie.Need-returns
 returns c =
-    verdict-first (numberRules _ _ _ _ []) (lengthRule _ _ ∷ []) c.before.before.before.check-numbers.ensures c.before.x.given.1
+    verdict-first (number_rules _ _ _ _ []) (length_rule _ _ ∷ []) c.before.before.before.check-numbers.ensures c.before.x.given.1
 
 enum_told : tie.Need-enum-told
 enum_told c = search rules
@@ -38,7 +38,7 @@ check-lengths-requires : tie.Need-check-lengths-requires
 check-lengths-requires c κs = search rules
 
 returns-2 : tie.Need-returns-2
-returns-2 c = past-numbers (lengthRule _ _ ∷ []) (numbers c.before) c.check-lengths.ensures
+returns-2 c = past-numbers (length_rule _ _ ∷ []) (numbers c.before) c.check-lengths.ensures
 
 pub check-matrix-spec : {M : Type 1} → statement M
 check-matrix-spec =

@@ -7,7 +7,7 @@ use Prim.Native.Nat.{ℕ, ◌+◌, ◌*◌}
 use lib.ListN.{length, get_or}
 use Rattle.matrix_buffers.proofs.Bounds.{cell-few, square-few, transform-few}
 use Rattle.matrix_refusals.specs.Number.{Verdict}
-use Rattle.matrix_promises.specs.Refused.{Numbers, stepSizes, numberRules, lengthRule, coefficientRule}
+use Rattle.matrix_promises.specs.Refused.{Numbers, step_sizes, number_rules, length_rule, coefficient_rule}
 use Rattle.matrix_promises.proofs.Tables.{past, in-range, past-numbers}
 use Rattle.matrix_refusals.proofs.checks.Verdicts.{wrong-here, wrong-later, wrong-length, verdict-of-more, in_bounds}
 use Rattle.matrix_refusals.proofs.checks.check_reduction.Statement.{statement}
@@ -19,9 +19,9 @@ start c = c.before.before.before.before
 
 -- past the first test the numbers and two lengths are right
 known : (c : tie.After-enum-told) → let args = (start c).args in
-    Numbers args.p args.n args.m args.d × (length args.a.now ∷ args.r ∷ [] ≡ stepSizes args.n args.m args.d)
+    Numbers args.p args.n args.m args.d × (length args.a.now ∷ args.r ∷ [] ≡ step_sizes args.n args.m args.d)
 known c =
-    let (numbers, after) = in-range (lengthRule _ _ ∷ []) refl (subst (Verdict (numberRules _ _ _ _ (lengthRule _ _ ∷ [])))
+    let (numbers, after) = in-range (length_rule _ _ ∷ []) refl (subst (Verdict (number_rules _ _ _ _ (length_rule _ _ ∷ [])))
     c.enum_told.given.1 c.before.before.check-matrix.ensures) in
     (numbers, (past refl (omega arith) after).0)
 
@@ -38,7 +38,7 @@ enum-known-x : tie.Need-enum-known-x
 enum-known-x c = search rules
 
 returns : tie.Need-returns
-returns c = verdict-of-more (coefficientRule _ _ ∷ []) _ c.before.x.given.1 c.before.before.before.check-matrix.ensures
+returns c = verdict-of-more (coefficient_rule _ _ ∷ []) _ c.before.x.given.1 c.before.before.before.check-matrix.ensures
 
 enum_told : tie.Need-enum-told
 enum_told c = search rules
@@ -57,7 +57,7 @@ mul-if1-2 c = omega (arith, transform-few (in_bounds (known c).0))
 
 returns-2 : tie.Need-returns-2
 returns-2 c =
-    past-numbers (lengthRule _ _ ∷ coefficientRule _ _ ∷ []) (known c.before).0 (inl (wrong-length
+    past-numbers (length_rule _ _ ∷ coefficient_rule _ _ ∷ []) (known c.before).0 (inl (wrong-length
     (wrong-later _ _ 2 _ _ (input c.before) (wrong-later _ _ 1 _ _ (result c.before) (wrong-here _ _ _ _ c.if1.true)))))
 
 mul-if2 : tie.Need-overflow-mul-if2
@@ -66,7 +66,7 @@ mul-if2 c = omega (arith, square-few (in_bounds (known c.before).0))
 returns-3 : tie.Need-returns-3
 returns-3 c =
     let told = c.before.before in
-    past-numbers (lengthRule _ _ ∷ coefficientRule _ _ ∷ []) (known told).0 (inl (wrong-length
+    past-numbers (length_rule _ _ ∷ coefficient_rule _ _ ∷ []) (known told).0 (inl (wrong-length
     (wrong-later _ _ 3 _ _ (input told) (wrong-later _ _ 2 _ _ (result told)
     (wrong-later _ _ 1 _ _ c.before.if1.false (wrong-here _ _ _ _ c.if2.true))))))
 
@@ -76,7 +76,7 @@ check-coefficients-requires c κs = search rules
 returns-4 : tie.Need-returns-4
 returns-4 c =
     let told = c.before.before.before in
-    past-numbers (lengthRule _ _ ∷ coefficientRule _ _ ∷ []) (known told).0 (inr (
+    past-numbers (length_rule _ _ ∷ coefficient_rule _ _ ∷ []) (known told).0 (inr (
       ap₂ ◌∷◌ (input told) (ap₂ ◌∷◌ (result told)
           (ap₂ ◌∷◌ c.before.before.if1.false (ap₂ ◌∷◌ c.before.if2.false refl))),
       c.check-coefficients.ensures,

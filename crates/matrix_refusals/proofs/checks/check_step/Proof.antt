@@ -1,7 +1,7 @@
 use borrow.Author.Rules.{rules}
 use mathlib.Core.List.{[], ◌∷◌}
 use native.Mathlib.Omega.{arith}
-use Rattle.matrix_promises.specs.Refused.{numberRules, lengthRule, coefficientRule}
+use Rattle.matrix_promises.specs.Refused.{number_rules, length_rule, coefficient_rule}
 use Rattle.matrix_refusals.proofs.checks.Verdicts.{verdict-first, verdict-then}
 use Rattle.matrix_refusals.proofs.checks.check_step.Statement.{statement}
 use Rattle.matrix_refusals.proofs.checks.check_step.Tie as tie
@@ -14,7 +14,7 @@ enum-known-x c = search rules
 
 returns : tie.Need-returns
 returns c =
-    verdict-first (numberRules _ _ _ _ (lengthRule _ _ ∷ [])) (coefficientRule _ _ ∷ []) c.before.before.before.check-matrix.ensures
+    verdict-first (number_rules _ _ _ _ (length_rule _ _ ∷ [])) (coefficient_rule _ _ ∷ []) c.before.before.before.check-matrix.ensures
     c.before.x.given.1
 
 enum_told : tie.Need-enum-told
@@ -25,7 +25,7 @@ check-coefficients-requires c κs = search rules
 
 returns-2 : tie.Need-returns-2
 returns-2 c =
-    verdict-then (numberRules _ _ _ _ (lengthRule _ _ ∷ [])) (coefficientRule _ _ ∷ []) c.before.before.before.check-matrix.ensures
+    verdict-then (number_rules _ _ _ _ (length_rule _ _ ∷ [])) (coefficient_rule _ _ ∷ []) c.before.before.before.check-matrix.ensures
     c.check-coefficients.result (omega arith, (omega arith, (omega arith, (omega arith, tt)))) c.before.enum_told.given.1
     c.check-coefficients.ensures
 

@@ -3,7 +3,7 @@ use native.Mathlib.Omega.{arith}
 use mathlib.Core.List.{List}
 use Prim.Native.Nat.{ℕ, ◌*◌}
 use Rattle.theory_lists.proofs.Grid.{within}
-use Rattle.theory_lists.specs.Place.{inRow}
+use Rattle.theory_lists.specs.Place.{place_in_row}
 use Rattle.matrix_buffers.specs.Exchanged.{CellExchanged, RowsExchanged}
 use Rattle.theory_lists.proofs.Place.{block-own, row-outside}
 use Rattle.matrix_rows.specs.exchange.Asked.{TwoParts, TwoRows}
@@ -21,7 +21,7 @@ parts m w i j b pre = record {
 exchanged : (m w i j : ℕ) (b b' : List ℕ) → CellExchanged (m * w) (i * (m * w)) (j * (m * w)) b b' → RowsExchanged m w i j b b'
 exchanged m w i j b b' d = record {
   size = d.size;
-  exchanged = λ k t lk lt. d.exchanged 0 (inRow w k t) (omega arith) (within k t m w lk lt);
+  exchanged = λ k t lk lt. d.exchanged 0 (place_in_row w k t) (omega arith) (within k t m w lk lt);
   others = λ x outside outside'. d.others x (row-outside m w i x outside) (row-outside m w j x outside');
 }
 

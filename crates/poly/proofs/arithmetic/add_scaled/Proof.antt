@@ -4,13 +4,13 @@ use mathlib.Core.Path.{ap₂, ◌∙◌}
 use Prim.Native.Nat.{ℕ, ◌+◌, ◌*◌, ◌-◌, ◌%◌}
 use lib.ListN.{length}
 use Rattle.theory_lists.proofs.Change.{Changing, changing-start, changing-turn, changing-end}
-use Rattle.poly.specs.arithmetic.Operations.{plusTimes}
+use Rattle.poly.specs.arithmetic.Operations.{plus_times}
 use Rattle.poly.proofs.arithmetic.add_scaled.Statement.{statement}
 use Rattle.poly.proofs.arithmetic.add_scaled.Tie as tie
 
 -- The places before i have their sums, and those from i on are as they were. The places that are left fall.
 abbrev invariant-loop : tie.invariant-loop
-invariant-loop a₀ b c md i₀ a i = Changing (plusTimes md.p c.0 b) a₀ a i
+invariant-loop a₀ b c md i₀ a i = Changing (plus_times md.p c.0 b) a₀ a i
 
 abbrev decreases-loop : tie.decreases-loop
 decreases-loop a₀ b c md i₀ a i = length a₀ - i

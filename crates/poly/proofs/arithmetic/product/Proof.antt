@@ -4,13 +4,13 @@ use mathlib.Core.Path.{ap, ◌∙◌}
 use Prim.Native.Nat.{ℕ, ◌-◌, ◌%◌}
 use lib.ListN.{length}
 use Rattle.theory_lists.proofs.Change.{Changing, changing-start, changing-turn, changing-end}
-use Rattle.poly.specs.arithmetic.Operations.{productAt, productOf}
+use Rattle.poly.specs.arithmetic.Operations.{product_at, product_of}
 use Rattle.poly.proofs.arithmetic.product.Statement.{statement}
 use Rattle.poly.proofs.arithmetic.product.Tie as tie
 
 -- The places before k have their sums, and those from k on are as they were. The places that are left fall.
 abbrev invariant-loop : tie.invariant-loop
-invariant-loop a b out₀ md k₀ out k = Changing (λ j x. productAt a b j % md.p) out₀ out k
+invariant-loop a b out₀ md k₀ out k = Changing (λ j x. product_at a b j % md.p) out₀ out k
 
 abbrev decreases-loop : tie.decreases-loop
 decreases-loop a b out₀ md k₀ out k = length out₀ - k
@@ -55,7 +55,7 @@ same_length : tie.Need-same-length invariant-loop decreases-loop
 same_length c = search rules
 
 returns : tie.Need-returns invariant-loop decreases-loop
-unfolding productOf
+unfolding product_of
 returns c = changing-end _ _ _ _ c.before.loop.invariant (omega arith)
 
 pub product-spec : {M : Type 1} → statement M

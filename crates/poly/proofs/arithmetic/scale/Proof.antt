@@ -4,7 +4,7 @@ use mathlib.Core.Path.{ap, ◌∙◌}
 use Prim.Native.Nat.{ℕ, ◌*◌, ◌-◌, ◌%◌}
 use lib.ListN.{length}
 use Rattle.theory_lists.proofs.Change.{Changing, changing-start, changing-turn, changing-end}
-use Rattle.poly.specs.arithmetic.Operations.{scaledBy}
+use Rattle.poly.specs.arithmetic.Operations.{scaled_by}
 use Rattle.poly.proofs.arithmetic.scale.Statement.{statement}
 use Rattle.poly.proofs.arithmetic.scale.Tie as tie
 
@@ -59,7 +59,7 @@ same_length : tie.Need-same-length invariant-loop decreases-loop
 same_length c = search rules
 
 returns : tie.Need-returns invariant-loop decreases-loop
-unfolding scaledBy
+unfolding scaled_by
 returns c = changing-end _ _ _ _ c.before.loop.invariant (omega arith)
 
 pub scale-spec : {M : Type 1} → statement M
