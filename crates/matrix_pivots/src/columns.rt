@@ -7,7 +7,7 @@ ghost use Rattle.matrix_pivots.specs.NextPair.{NextAsked};
 use crate::{Pivot, PivotIndex};
 
 // Bit c - 1 stands for column c; a zero row, of index 0, has none.
-#[derive(Drop)]
+#[derive(Clone, Copy)]
 pub struct Columns(pub u8);
 
 impl Columns {

@@ -8,14 +8,14 @@ ghost use Rattle.matrix_pivots.specs.Pivot.{value_of, row_of, values_of, IsPivot
 ghost use Rattle.matrix_pivots.specs.Pivot.{index_at, degree_at, AllPivots, least_degree};
 
 // The column of the pivot, counted from 1; 0 for a zero row.
-#[derive(Drop)]
+#[derive(Clone, Copy)]
 pub struct PivotIndex(pub(crate) usize);
 
 // The degree of the pivot and 1 more, so that a zero row, of degree -1, has 0.
-#[derive(Drop)]
+#[derive(Clone, Copy)]
 pub struct PivotDegree(pub(crate) usize);
 
-#[derive(Drop)]
+#[derive(Clone, Copy)]
 pub struct Pivot {
     pub index: PivotIndex,
     pub degree: PivotDegree,

@@ -11,7 +11,7 @@ use matrix_steps::{Ranges, follow, multiple};
 use poly::{Modulus, polynomial};
 
 // The row that is subtracted next, and the excess over it; 0 where no row has any.
-#[derive(Drop)]
+#[derive(Clone, Copy)]
 struct Found {
     at: usize,
     excess: usize,

@@ -1,4 +1,5 @@
 // The reduction on buffers, with its transforms and without them, and the single step.
+#![tactic(auto)]
 ghost use Rattle.matrix_promises.specs.Reduced.{IsReduction};
 ghost use Rattle.matrix_reduction.specs.Asked.{StartAsked};
 
@@ -14,7 +15,7 @@ pub use single::once;
 pub use without_transforms::run_alone;
 
 // How many rows are not zero, and how many steps led there.
-#[derive(Drop)]
+#[derive(Clone, Copy)]
 pub struct Reached {
     pub rank: usize,
     pub count: u64,

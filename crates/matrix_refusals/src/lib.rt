@@ -1,4 +1,5 @@
 // The refusals with their numbers and places, and the checks that lead to them.
+#![tactic(auto)]
 ghost use Rattle.std.specs.Prelude.{◌≡◌};
 ghost use Rattle.matrix_refusals.specs.Number.{number_of, place_of};
 

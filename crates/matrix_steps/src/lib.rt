@@ -1,4 +1,5 @@
 // The step on buffers: what a step takes away, the step on the matrix alone, and how U and V follow.
+#![tactic(auto)]
 ghost use Rattle.matrix_steps.specs.Asked.{LowerAsked, FollowAsked};
 ghost use Rattle.matrix_steps.specs.Subtraction.{IsLowered, Followed};
 
@@ -10,7 +11,7 @@ use poly::Modulus;
 pub mod multiple;
 
 // What the step took away, and the pivot of row l anew.
-#[derive(Drop)]
+#[derive(Clone, Copy)]
 pub struct Lowered {
     pub multiple: Multiple,
     pub pivot: Pivot,
@@ -41,7 +42,7 @@ pub fn lower(
 }
 
 // How many of the lowest places of a cell can be other than zero, in row k of U and in column l of V: only these are read.
-#[derive(Drop)]
+#[derive(Clone, Copy)]
 pub struct Ranges {
     pub u: usize,
     pub v: usize,

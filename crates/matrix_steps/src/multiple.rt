@@ -8,7 +8,7 @@ use poly::{Modulus, Residue};
 
 // The multiple c·x^e of a row that is taken from another: e is the exponent, c the factor, and -c stands beside it, so that rows
 // are only ever added to.
-#[derive(Drop)]
+#[derive(Clone, Copy)]
 pub struct Multiple {
     pub exponent: usize,
     pub factor: Residue,

@@ -1,4 +1,6 @@
 // Residues modulo p, and polynomials over them in slices that the caller lends.
+#![tactic(auto)]
+
 pub mod arithmetic;
 pub mod polynomial;
 pub mod residues;

@@ -5,7 +5,7 @@ ghost use Rattle.poly.specs.Polynomial.{degree_of, used_places, leading_of, Same
 use crate::residues::Residue;
 
 // The degree of a polynomial, -1 for zero.
-#[derive(Drop)]
+#[derive(Clone, Copy)]
 pub struct Degree(pub i64);
 
 // Whether all places are zero. No early exit, so that eight places become one comparison of vectors.

@@ -5,11 +5,11 @@ ghost use Rattle.poly.specs.residues.Modulus.{Ready, Residues₂, Inverse};
 ghost use Rattle.theory_algebra.specs.Modulus.{Accepted, InRange};
 
 // A number below the modulus.
-#[derive(Drop)]
+#[derive(Clone, Copy)]
 pub struct Residue(pub(crate) u16);
 
 // A modulus with the reciprocal by which remainders are taken: two products in place of a division.
-#[derive(Drop)]
+#[derive(Clone, Copy)]
 pub struct Modulus {
     pub p: u32,
     pub reciprocal: u32,

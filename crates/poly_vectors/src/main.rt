@@ -1,5 +1,6 @@
 // Prints what the functions of `poly` answer for small and extreme inputs. The file stdout beside this folder
 // has what they should print; expected.py, which shares no code with them, works it out.
+#![tactic(auto)]
 ghost use Rattle.std.specs.Prelude.{◌<◌, ◌≤◌};
 ghost use Rattle.theory_algebra.specs.Prime.{Prime};
 ghost use Rattle.poly.specs.residues.Modulus.{Ready};

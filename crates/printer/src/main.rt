@@ -1,5 +1,6 @@
 // Reads standard input whole and prints the answer. A text of more than 32,768 bytes is read up to one byte more, which the library
 // refuses. What is amiss outside the text is said on standard error, for a program has no status to say it by.
+#![tactic(auto)]
 use libc::{STDERR_FILENO, STDIN_FILENO, STDOUT_FILENO};
 use printer_library::OUTPUT;
 

@@ -122,7 +122,7 @@ module _ {F : Type 0} (K : Field F) (n m size : ℕ) where
 
       -- the greatest becomes less, and no other grows beyond that, for row i is small in the pivot columns of the other rows before k
       own-less : excess K m size new (M i) < x M k i
-      own-less = let s = p.highest.some in omega (arith, excess-least K m size new (M i) (x M k i - 1) removed-row.own_val)
+      own-less = let s = p.highest.some in omega (arith, excess-least K m size new (M i) (x M k i - 1) removed-row.own)
 
       other-less : (j : ℕ) → j < k → j ≢ i → excess K m size new (M j) ≤ x M k j + (x M k i - 1 - x M k j)
       other-less j lj ne = excess-least K m size new (M j) _ (removed-row.other (pivot-of K m size (M j)).col _ _ (omega arith)
