@@ -34,7 +34,7 @@ pub modulus-unique : (p : ℕ) (md md' : Modulus) → (md.p ≡ p) × Ready md.p
 modulus-unique p md md' f g =
     let same : md.p ≡ md'.p = f.0 ∙ sym g.0 in
     ap₂ (λ (p reciprocal : ℕ). record { p = p; reciprocal = reciprocal }) same
-    (f.1.Reciprocal-is ∙ ap (λ (q : ℕ). 4294967296 / q) same ∙ sym g.1.Reciprocal-is)
+    (f.1.reciprocal_is ∙ ap (λ (q : ℕ). 4294967296 / q) same ∙ sym g.1.reciprocal_is)
 
 -- r = r·(a·s) = s·(a·r) = s
 pub inverse-unique : (p a r s : ℕ) → Inverse p a r → Inverse p a s → r ≡ s
