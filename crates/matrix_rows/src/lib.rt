@@ -1,5 +1,6 @@
 // Row and column operations on matrices of polynomials that stand in buffers, straight in the buffer: no room is lent, and none made.
 #![tactic(auto)]
+
 ghost use Rattle.theory_lists.specs.Place.{spaced};
 ghost use Rattle.matrix_buffers.specs.Added.{CellsAdded, CellAdded, RowAdded, ColumnAdded};
 ghost use Rattle.matrix_buffers.specs.Diagonal.{Diagonal};

@@ -1,4 +1,3 @@
-use borrow.Author.Rules.{rules}
 use native.Mathlib.Omega.{arith}
 use mathlib.Core.Path.{subst}
 use mathlib.Core.List.{List}
@@ -8,8 +7,7 @@ use Rattle.theory_lists.specs.Place.{spaced}
 use Rattle.matrix_buffers.specs.Scaled.{CellsScaled, RowScaled}
 use Rattle.theory_lists.proofs.Place.{rows-spaced}
 use Rattle.matrix_rows.specs.scale.Asked.{PartToScale, CellsToScale}
-use Rattle.matrix_rows.proofs.scale.scale_row.Statement.{statement}
-use Rattle.matrix_rows.proofs.scale.scale_row.Tie as tie
+use Rattle.matrix_rows.proofs.scale.scale_row.Goals as goal
 
 -- the row, cell by cell
 cells : (p reciprocal m w i : ℕ) (b : List ℕ) → PartToScale p reciprocal (m * w) (i * (m * w)) b → CellsToScale p reciprocal w (i * (m * w)) w m b
@@ -19,21 +17,8 @@ cells p reciprocal m w i b pre =
 scaled : (p m w c i : ℕ) (b b' : List ℕ) → CellsScaled p c w m (spaced (i * (m * w)) w) b b' → RowScaled p m w c i b b'
 scaled p m w c i b b' = subst (λ spot. CellsScaled p c w m (spot i) b b') (rows-spaced m w)
 
-mul-size : tie.Need-overflow-mul-size
-mul-size c = search rules
+pub scale_cells-requires : goal.scale_cells-requires
+scale_cells-requires c = cells _ _ _ _ _ _ c.requires
 
-mul-scale-cells : tie.Need-overflow-mul-scale-cells
-mul-scale-cells c = search rules
-
-scale-cells-requires : tie.Need-scale-cells-requires
-scale-cells-requires c κs = cells _ _ _ _ _ _ c.before.before.requires
-
-same_length : tie.Need-same-length
-same_length c = search rules
-
-returns : tie.Need-returns
-returns c = scaled _ _ _ _ _ _ _ c.before.before.scale-cells.ensures
-
-pub scale-row-spec : {M : Type 1} → statement M
-scale-row-spec =
-    tie.close (tie.spec mul-size mul-scale-cells scale-cells-requires same_length returns)
+pub returns : goal.returns
+returns c = scaled _ _ _ _ _ _ _ c.scale_cells.ensures

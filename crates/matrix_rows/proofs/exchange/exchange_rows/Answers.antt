@@ -1,4 +1,3 @@
-use borrow.Author.Rules.{rules}
 use native.Mathlib.Omega.{arith}
 use mathlib.Core.List.{List}
 use Prim.Native.Nat.{ℕ, ◌*◌}
@@ -7,8 +6,7 @@ use Rattle.theory_lists.specs.Place.{place_in_row}
 use Rattle.matrix_buffers.specs.Exchanged.{CellExchanged, RowsExchanged}
 use Rattle.theory_lists.proofs.Place.{block-own, row-outside}
 use Rattle.matrix_rows.specs.exchange.Asked.{TwoParts, TwoRows}
-use Rattle.matrix_rows.proofs.exchange.exchange_rows.Statement.{statement}
-use Rattle.matrix_rows.proofs.exchange.exchange_rows.Tie as tie
+use Rattle.matrix_rows.proofs.exchange.exchange_rows.Goals as goal
 
 -- each row is one cell of m * w places
 parts : (m w i j : ℕ) (b : List ℕ) → TwoRows m w i j b → TwoParts (m * w) (i * (m * w)) (j * (m * w)) b
@@ -25,31 +23,8 @@ exchanged m w i j b b' d = record {
   others = λ x outside outside'. d.others x (row-outside m w i x outside) (row-outside m w j x outside');
 }
 
-mul-size : tie.Need-overflow-mul-size
-mul-size c = search rules
+pub exchange_parts-requires : goal.exchange_parts-requires
+exchange_parts-requires c = parts _ _ _ _ _ c.requires
 
-mul-exchange-parts : tie.Need-overflow-mul-exchange-parts
-mul-exchange-parts c = search rules
-
-mul-exchange-parts-2 : tie.Need-overflow-mul-exchange-parts-2
-mul-exchange-parts-2 c = search rules
-
-exchange-parts-requires : tie.Need-exchange-parts-requires
-exchange-parts-requires c κs = parts _ _ _ _ _ c.before.before.requires
-
-same_length : tie.Need-same-length
-same_length c = search rules
-
-returns : tie.Need-returns
-returns c = exchanged _ _ _ _ _ _ c.before.before.exchange-parts.ensures
-
-pub exchange-rows-spec : {M : Type 1} → statement M
-exchange-rows-spec =
-    tie.close
-    (tie.spec
-    mul-size
-    mul-exchange-parts
-    mul-exchange-parts-2
-    exchange-parts-requires
-    same_length
-    returns)
+pub returns : goal.returns
+returns c = exchanged _ _ _ _ _ _ c.exchange_parts.ensures

@@ -12,8 +12,7 @@ use Rattle.poly.specs.arithmetic.Operations.{scaled_by}
 use Rattle.poly.proofs.Ending.{ends-height}
 use Rattle.matrix_buffers.specs.Scaled.{CellScaled}
 use Rattle.matrix_buffers.proofs.CellByCell.{cell-changed, rest-kept}
-use Rattle.matrix_rows.proofs.scale.scale_cell.Statement.{statement}
-use Rattle.matrix_rows.proofs.scale.scale_cell.Tie as tie
+use Rattle.matrix_rows.proofs.scale.scale_cell.Goals as goal
 
 -- n places are used, and lent; the zeros behind them are their own multiples
 module _ (p c w start n : ℕ) (b : List ℕ) (fits : start + w ≤ length b) (n-is : n ≡ used_places (take (start + w - start) (drop start b))) where
@@ -31,66 +30,8 @@ module _ (p c w start n : ℕ) (b : List ℕ) (fits : start + w ≤ length b) (n
   back : (new : List ℕ) → new ≡ scaled_by p c (take (start + n - start) (drop start b))
       → CellScaled p c w start b (take start b ++ (new ++ drop (start + n - start) (drop start b)))
   unfolding scaled_by
-  back new New-is = rw (New-is, N.add-sub_cancel_left start n)
+  back new new-is = rw (new-is, N.add-sub_cancel_left start n)
       (rest-kept w start n _ b _ enough behind (cell-changed (λ _ x. c * x % p) start n b (omega (arith, enough))))
 
-add-end : tie.Need-overflow-add-end
-add-end c = search rules
-
-mul-used : tie.Need-overflow-mul-used
-mul-used c = search rules
-
-sub_used : tie.Need-overflow-sub-used
-sub_used c = search rules
-
-part-used-start : tie.Need-slice-bounds-used-start
-part-used-start c = search rules
-
-part-used-end : tie.Need-slice-bounds-used-end
-part-used-end c = search rules
-
-used-requires : tie.Need-used-requires
-used-requires c κs = search rules
-
-add-used : tie.Need-overflow-add-used
-add-used c = search rules
-
-mul-scale : tie.Need-overflow-mul-scale
-mul-scale c = search rules
-
-sub-scale : tie.Need-overflow-sub-scale
-sub-scale c = search rules
-
-part-scale-start : tie.Need-slice-bounds-scale-start
-part-scale-start c = search rules
-
-part-scale-end : tie.Need-slice-bounds-scale-end
-part-scale-end c = search rules
-
-scale-requires : tie.Need-scale-requires
-scale-requires c κs = search rules
-
-same_length : tie.Need-same-length
-same_length c = search rules
-
-returns : tie.Need-returns
+pub returns : goal.returns
 returns c = search (rules, back)
-
-pub scale-cell-spec : {M : Type 1} → statement M
-scale-cell-spec =
-    tie.close
-    (tie.spec
-    add-end
-    mul-used
-    sub_used
-    part-used-start
-    part-used-end
-    used-requires
-    add-used
-    mul-scale
-    sub-scale
-    part-scale-start
-    part-scale-end
-    scale-requires
-    same_length
-    returns)
