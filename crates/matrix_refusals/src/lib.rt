@@ -1,11 +1,12 @@
 // The refusals with their numbers and places, and the checks that lead to them.
 #![tactic(auto)]
+
 ghost use Rattle.std.specs.Prelude.{◌≡◌};
 ghost use Rattle.matrix_refusals.specs.Number.{number_of, place_of};
 
 pub mod checks;
 
-#[derive(Drop)]
+#[derive(Clone, Copy)]
 pub enum Refusal {
     Modulus,
     Shape,
@@ -16,7 +17,7 @@ pub enum Refusal {
     Coefficient(usize),
 }
 
-#[derive(Drop)]
+#[derive(Clone, Copy)]
 pub enum Check {
     Fine,
     Refused(Refusal),
