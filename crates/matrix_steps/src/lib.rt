@@ -1,5 +1,6 @@
 // The step on buffers: what a step takes away, the step on the matrix alone, and how U and V follow.
 #![tactic(auto)]
+
 ghost use Rattle.matrix_steps.specs.Asked.{LowerAsked, FollowAsked};
 ghost use Rattle.matrix_steps.specs.Subtraction.{IsLowered, Followed};
 

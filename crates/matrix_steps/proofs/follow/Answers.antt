@@ -1,0 +1,18 @@
+use native.Mathlib.Omega.{arith}
+use Prim.Native.Nat.{◌*◌, ◌<◌}
+use Rattle.theory_lists.proofs.Grid.{one_line}
+use Rattle.matrix_steps.proofs.LinesAsked.{u-asked, v-asked}
+use Rattle.matrix_steps.proofs.follow.Goals as goal
+
+pub overflow_mul-n : goal.overflow_mul-n
+overflow_mul-n c =
+    let n = c.args.n in
+    let cell = n * c.args.w in
+    let rows : 0 < n = omega (arith, c.requires.move.l-fits) in
+    omega (arith, c.requires.move.u-size, one_line n cell rows, one_line n (n * cell) rows)
+
+pub add_row-requires : goal.add_row-requires
+add_row-requires c = u-asked c.requires
+
+pub add_column-requires : goal.add_column-requires
+add_column-requires c = v-asked c.requires

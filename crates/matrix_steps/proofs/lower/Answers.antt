@@ -1,0 +1,10 @@
+use Rattle.matrix_steps.proofs.LinesAsked.{row-asked, renew-asked}
+use Rattle.matrix_steps.proofs.lower.Goals as goal
+
+pub add_row-requires : goal.add_row-requires
+add_row-requires c =
+    rw c.places.ensures (row-asked c.requires c.plan-multiple.ensures)
+
+pub of_row-pivot-requires : goal.of_row-pivot-requires
+of_row-pivot-requires c =
+    rw c.places-2.ensures (renew-asked c.requires c.plan-multiple.ensures c.add_row.ensures)
