@@ -1,5 +1,6 @@
 // The reduction on buffers, with its transforms and without them, and the single step.
 #![tactic(auto)]
+
 ghost use Rattle.matrix_promises.specs.Reduced.{IsReduction};
 ghost use Rattle.matrix_reduction.specs.Asked.{StartAsked};
 
