@@ -32,17 +32,8 @@ returns-then-not-one_to_eight-2 c = inr (
   inl ((λ s. denied c.one_to_eight-2.ensures c.if-not-one_to_eight-2.true (s.columns, s.columns-most)), refl, refl),
 )
 
-pub returns-then-d-gt63 : goal.returns-then-d-gt63
-returns-then-d-gt63 c = inr (
-  accepted (goal.at.returns-then-d-gt63 c).Else-not-accepts,
-  inr (
-    shape (goal.at.returns-then-d-gt63 c).Else-not-one_to_eight-2,
-    inl ((λ h. omega (arith, c.if-d-gt63.true, h)), refl, refl),
-  ),
-)
-
 pub returns : goal.returns
 returns c = inr (
   accepted (goal.at.returns c).Else-not-accepts,
-  inr (shape (goal.at.returns c).Else-not-one_to_eight-2, inr (c.if-d-gt63.false, (refl, refl))),
+  inr (shape (goal.at.returns c).Else-not-one_to_eight-2, inr (omega arith, (refl, refl))),
 )
