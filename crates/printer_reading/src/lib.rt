@@ -1,6 +1,7 @@
 // Reading at an index of a text: numbers, lines and the cells of a matrix. What is read of a line goes into lent room, which
 // has a place for each number that the line should have.
 #![tactic(auto)]
+
 ghost use Rattle.std.specs.Prelude.{◌≡◌, [], ◌∷◌, ◌+◌, ◌*◌, ◌≤◌, length, drop};
 ghost use Rattle.printer_format.specs.Number.{is_digit, digits_of, value_of, is_plain, number};
 ghost use Rattle.printer_format.specs.Line.{mark, starts_with, numbers, read_line};
