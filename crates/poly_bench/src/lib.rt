@@ -1,5 +1,6 @@
 // The row operation and the product, many rounds of each, for a C program to time (bench/poly.c).
 #![tactic(auto)]
+
 ghost use Rattle.std.specs.Prelude.{◌≡◌, ◌+◌, ◌<◌, ◌≤◌, length};
 ghost use Rattle.poly.specs.residues.Modulus.{Ready};
 ghost use Rattle.theory_lists.specs.Coefficients.{Coefficients};
