@@ -1,5 +1,6 @@
 // The reduction of R alone, for a C program to compare and to time (bench/matrix.c).
 #![tactic(auto)]
+
 ghost use Rattle.matrix_bench.specs.Alone.{AloneReplied};
 
 use matrix_refusals::{Check, checks};
