@@ -2,6 +2,7 @@
 // is parted from them, follows. Then a row is zero but for its entry in that column, which is a factor of the determinant: the lowest
 // such row is taken out, and the last of the m columns is parted from the others.
 #![tactic(auto)]
+
 ghost use Rattle.matrix_determinant.specs.Determinant.{DeterminantAsked};
 ghost use Rattle.matrix_promises.specs.Determinant.{IsDeterminant};
 

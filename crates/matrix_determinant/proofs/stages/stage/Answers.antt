@@ -1,0 +1,56 @@
+use native.Mathlib.Numerals.{add-one}
+use native.Mathlib.Omega.{arith}
+use mathlib.Core.Path.{sym, ◌∙◌}
+use lib.Seq.{length-take-le}
+use Rattle.matrix_determinant.proofs.Turning.{reduce-asked, next_small, take-asked, next-front, front-room, left-asked, staged}
+use Rattle.matrix_determinant.proofs.stages.stage.Goals as goal
+use Rattle.matrix_determinant.proofs.stages.stage.Goals.{After-copy-arg-1, After-room-1, After-room-3-1, After-slice_known-7-1, After-take_out-arg-1}
+
+pub reduce_columns-pivots-requires : goal.reduce_columns-pivots-requires
+reduce_columns-pivots-requires c = reduce-asked c.requires
+
+pub overflow_mul-end : goal.overflow_mul-end
+overflow_mul-end c = omega (arith, next_small c.requires)
+
+pub overflow_mul-end-2 : goal.overflow_mul-end-2
+overflow_mul-end-2 c = omega (arith, next_small c.requires)
+
+pub slice_bounds-room-end : goal.slice_bounds-room-end
+slice_bounds-room-end c =
+    omega (arith, next_small c.requires, c.columns-room.ensures.0)
+
+pub slice_bounds-take_out-end : goal.slice_bounds-take_out-end
+slice_bounds-take_out-end c = sym (length-take-le _ _ (slice_bounds-room-end (goal.at.slice_bounds-take_out-end c).After-take_out-arg-1))
+
+pub take_out-requires : goal.take_out-requires
+take_out-requires c =
+    take-asked c.requires c.reduce_columns-pivots.ensures (sym (slice_bounds-take_out-end (goal.at.take_out-requires c).After-room-1))
+
+pub slice_bounds-room-end-2 : goal.slice_bounds-room-end-2
+slice_bounds-room-end-2 c = next-front c.take_out.ensures _
+
+pub slice_bounds-copy-end : goal.slice_bounds-copy-end
+slice_bounds-copy-end c = sym (length-take-le _ _ (slice_bounds-room-end-2 (goal.at.slice_bounds-copy-end c).After-slice_known-7-1))
+
+pub slice_bounds-copy-end-2 : goal.slice_bounds-copy-end-2
+slice_bounds-copy-end-2 c =
+    front-room c.requires c.reduce_columns-pivots.ensures
+
+pub slice_bounds-copy-end-3 : goal.slice_bounds-copy-end-3
+slice_bounds-copy-end-3 c = sym (length-take-le _ _ (slice_bounds-copy-end-2 (goal.at.slice_bounds-copy-end-3 c).After-room-3-1))
+
+pub copy-requires : goal.copy-requires
+copy-requires c = sym (slice_bounds-copy-end (goal.at.copy-requires c).After-room-3-1) ∙ slice_bounds-copy-end-3 (goal.at.copy-requires c).After-copy-arg-1
+
+pub overflow_add-m : goal.overflow_add-m
+overflow_add-m c =
+    omega (arith, c.requires.sizes.columns-most)
+
+pub degree_sum-requires : goal.degree_sum-requires
+degree_sum-requires c =
+    rw add-one (left-asked c.requires c.reduce_columns-pivots.ensures)
+
+pub returns : goal.returns
+returns c =
+    staged c.requires c.reduce_columns-pivots.ensures _ _ (rw add-one at c.degree_sum.ensures) c.take_out.ensures
+    c.take_out.auto.product c.copy.ensures
