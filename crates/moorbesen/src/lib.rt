@@ -1,5 +1,6 @@
 // The services for programs in C: each forwards to the matrix crate and tells the answer by its numbers.
 #![tactic(auto)]
+
 ghost use Rattle.std.specs.Prelude.{◌≡◌};
 ghost use Rattle.moorbesen.specs.Reply.{reply_of, step_reply_of, popov_reply_of, determinant_reply_of, Replied, StepReplied, PopovReplied, DeterminantReplied};
 
