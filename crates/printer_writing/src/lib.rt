@@ -1,5 +1,6 @@
 // Writing at an index of lent room. Each function returns the index after what it wrote.
 #![tactic(auto)]
+
 ghost use Rattle.std.specs.Prelude.{◌≡◌, [], ◌∷◌, ◌++◌, ◌<◌};
 ghost use Rattle.printer_format.specs.Number.{digit, decimal};
 ghost use Rattle.printer_format.specs.Line.{mark, row, line};
