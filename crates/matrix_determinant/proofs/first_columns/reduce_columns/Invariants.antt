@@ -2,7 +2,6 @@
 use Prim.Native.Nat.{suc}
 use Rattle.theory_lists.specs.Total.{total}
 use Rattle.matrix_pivots.specs.Pivot.{values_of}
-use Rattle.matrix_determinant.proofs.FirstColumns as Columns
 use Rattle.matrix_determinant.proofs.FirstColumns.{Going}
 use Rattle.matrix_determinant.proofs.first_columns.reduce_columns.Given as goal
 

@@ -5,7 +5,7 @@ use Prim.Native.Nat.{◌+◌, ◌-◌, ◌*◌, ◌≤◌}
 use lib.ListN.{length}
 use Rattle.matrix_determinant.proofs.LastColumn.{parting-start, row-parts, ends, next-asked, last-asked, parting-turn, parting-end}
 use Rattle.matrix_determinant.proofs.last_column.part.Goals as goal
-use Rattle.matrix_determinant.proofs.last_column.part.Goals.{After-fill-arg-in-loop-s-3-1, After-row_left, After-slice_known-in-loop-s-1}
+use Rattle.matrix_determinant.proofs.last_column.part.Goals.{After-row_left}
 
 -- the row that is read, and where its last cell ends
 row : (c : After-row_left) → let args = c.args in
@@ -50,13 +50,13 @@ pub fill-requires : goal.fill-requires
 fill-requires c = search (rules, next-asked)
 
 pub offset_bounds-r-last : goal.offset_bounds-r-last
-offset_bounds-r-last c = omega (arith, row (goal.at.offset_bounds-r-last (goal.at.offset_bounds-r-last c).After-slice_known-in-loop-s-1).After-row_left)
+offset_bounds-r-last c = omega (arith, row (goal.at.offset_bounds-r-last c).After-row_left)
 
 pub slice_bounds-fill-count-in-loop-s : goal.slice_bounds-fill-count-in-loop-s
-slice_bounds-fill-count-in-loop-s c = omega (arith, row (goal.at.slice_bounds-fill-count-in-loop-s (goal.at.slice_bounds-fill-count-in-loop-s c).After-slice_known-in-loop-s-1).After-row_left)
+slice_bounds-fill-count-in-loop-s c = omega (arith, row (goal.at.slice_bounds-fill-count-in-loop-s c).After-row_left)
 
 pub overflow_mul-s-in-loop-s : goal.overflow_mul-s-in-loop-s
-overflow_mul-s-in-loop-s c = omega (arith, written (goal.at.overflow_mul-s-in-loop-s (goal.at.overflow_mul-s-in-loop-s c).After-fill-arg-in-loop-s-3-1).After-row_left)
+overflow_mul-s-in-loop-s c = omega (arith, written (goal.at.overflow_mul-s-in-loop-s c).After-row_left)
 
 pub fill-requires-in-loop-s : goal.fill-requires-in-loop-s
 fill-requires-in-loop-s c = search (rules, last-asked)

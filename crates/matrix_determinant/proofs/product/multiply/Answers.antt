@@ -6,7 +6,6 @@ use Rattle.poly.specs.arithmetic.Operations.{scaled_by}
 use Rattle.matrix_determinant.specs.SignedProduct.{signed_product}
 use Rattle.matrix_determinant.proofs.SignedProduct.{used-asked, made-room, made-whole}
 use Rattle.matrix_determinant.proofs.product.multiply.Goals as goal
-use Rattle.matrix_determinant.proofs.product.multiply.Goals.{After-room-2-1, After-room-3-1}
 
 pub slice_bounds-product-end-2 : goal.slice_bounds-product-end-2
 slice_bounds-product-end-2 c = sym (length-take-le _ _ (omega arith))
@@ -24,10 +23,10 @@ pub slice_bounds-room-end-2 : goal.slice_bounds-room-end-2
 slice_bounds-room-end-2 c = search (rules, made-room)
 
 pub slice_bounds-copy-end : goal.slice_bounds-copy-end
-slice_bounds-copy-end c = sym (length-take-le _ _ (slice_bounds-room-end-2 (goal.at.slice_bounds-copy-end c).After-room-2-1))
+slice_bounds-copy-end c = sym (length-take-le _ _ (search (rules, made-room)))
 
 pub copy-requires : goal.copy-requires
-copy-requires c = sym (slice_bounds-copy-end (goal.at.copy-requires c).After-room-3-1)
+copy-requires c = length-take-le _ _ (search (rules, made-room))
 
 pub returns : goal.returns
 unfolding signed_product

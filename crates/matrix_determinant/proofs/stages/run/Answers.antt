@@ -73,7 +73,7 @@ slice_bounds-multiply-end c =
     cell-fits c.loop-m.invariant (ended (goal.at.slice_bounds-multiply-end c).After-loop-m)
 
 pub slice_bounds-multiply-end-2 : goal.slice_bounds-multiply-end-2
-slice_bounds-multiply-end-2 c = 
+slice_bounds-multiply-end-2 c =
     sym (length-take-le _ _ (cell-fits c.loop-m.invariant (ended (goal.at.slice_bounds-multiply-end-2 c).After-loop-m)))
 
 pub multiply-requires : goal.multiply-requires

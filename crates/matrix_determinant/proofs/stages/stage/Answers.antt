@@ -4,7 +4,6 @@ use mathlib.Core.Path.{sym, ◌∙◌}
 use lib.Seq.{length-take-le}
 use Rattle.matrix_determinant.proofs.Turning.{reduce-asked, next_small, take-asked, next-front, front-room, left-asked, staged}
 use Rattle.matrix_determinant.proofs.stages.stage.Goals as goal
-use Rattle.matrix_determinant.proofs.stages.stage.Goals.{After-copy-arg-1, After-room-1, After-room-3-1, After-slice_known-7-1, After-take_out-arg-1}
 
 pub reduce_columns-pivots-requires : goal.reduce_columns-pivots-requires
 reduce_columns-pivots-requires c = reduce-asked c.requires
@@ -20,27 +19,29 @@ slice_bounds-room-end c =
     omega (arith, next_small c.requires, c.columns-room.ensures.0)
 
 pub slice_bounds-take_out-end : goal.slice_bounds-take_out-end
-slice_bounds-take_out-end c = sym (length-take-le _ _ (slice_bounds-room-end (goal.at.slice_bounds-take_out-end c).After-take_out-arg-1))
+slice_bounds-take_out-end c = sym (length-take-le _ _ (omega (arith, next_small c.requires, c.columns-room.ensures.0)))
 
 pub take_out-requires : goal.take_out-requires
 take_out-requires c =
-    take-asked c.requires c.reduce_columns-pivots.ensures (sym (slice_bounds-take_out-end (goal.at.take_out-requires c).After-room-1))
+    take-asked c.requires c.reduce_columns-pivots.ensures (length-take-le _ _ (omega (arith, next_small c.requires, c.columns-room.ensures.0)))
 
 pub slice_bounds-room-end-2 : goal.slice_bounds-room-end-2
 slice_bounds-room-end-2 c = next-front c.take_out.ensures _
 
 pub slice_bounds-copy-end : goal.slice_bounds-copy-end
-slice_bounds-copy-end c = sym (length-take-le _ _ (slice_bounds-room-end-2 (goal.at.slice_bounds-copy-end c).After-slice_known-7-1))
+slice_bounds-copy-end c = sym (length-take-le _ _ (next-front c.take_out.ensures _))
 
 pub slice_bounds-copy-end-2 : goal.slice_bounds-copy-end-2
 slice_bounds-copy-end-2 c =
     front-room c.requires c.reduce_columns-pivots.ensures
 
 pub slice_bounds-copy-end-3 : goal.slice_bounds-copy-end-3
-slice_bounds-copy-end-3 c = sym (length-take-le _ _ (slice_bounds-copy-end-2 (goal.at.slice_bounds-copy-end-3 c).After-room-3-1))
+slice_bounds-copy-end-3 c = sym (length-take-le _ _ (front-room c.requires c.reduce_columns-pivots.ensures))
 
 pub copy-requires : goal.copy-requires
-copy-requires c = sym (slice_bounds-copy-end (goal.at.copy-requires c).After-room-3-1) ∙ slice_bounds-copy-end-3 (goal.at.copy-requires c).After-copy-arg-1
+copy-requires c =
+    length-take-le _ _ (next-front c.take_out.ensures _)
+    ∙ sym (length-take-le _ _ (front-room c.requires c.reduce_columns-pivots.ensures))
 
 pub overflow_add-m : goal.overflow_add-m
 overflow_add-m c =

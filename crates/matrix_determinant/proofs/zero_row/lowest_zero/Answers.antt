@@ -1,5 +1,4 @@
 use native.Mathlib.Omega.{arith}
-use Prim.Native.Nat.{◌-◌}
 use Rattle.theory_algebra.proofs.Flag.{denied}
 use Rattle.theory_lists.proofs.First.{seeking-start, seeking-on, seeking-found, seeking-end}
 use Rattle.matrix_determinant.proofs.zero_row.lowest_zero.Goals as goal

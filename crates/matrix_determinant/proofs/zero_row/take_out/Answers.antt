@@ -7,7 +7,7 @@ use lib.ListN.{length}
 use lib.Seq.{length-take-le}
 use Rattle.matrix_determinant.proofs.ZeroRow.{entry-fits, cells_fit, left-asked, taken_out}
 use Rattle.matrix_determinant.proofs.zero_row.take_out.Goals as goal
-use Rattle.matrix_determinant.proofs.zero_row.take_out.Goals.{After-lowest_zero-k, After-multiply-arg-1}
+use Rattle.matrix_determinant.proofs.zero_row.take_out.Goals.{After-lowest_zero-k}
 
 -- the row that is found lies in the column
 fits : (c : After-lowest_zero-k) → let args = c.args in
@@ -15,13 +15,13 @@ fits : (c : After-lowest_zero-k) → let args = c.args in
 fits c = entry-fits c.requires c.lowest_zero-k.ensures
 
 pub overflow_mul-at : goal.overflow_mul-at
-overflow_mul-at c = omega (arith, fits (goal.at.overflow_mul-at (goal.at.overflow_mul-at c).After-lowest_zero-k).After-lowest_zero-k)
+overflow_mul-at c = omega (arith, fits (goal.at.overflow_mul-at c).After-lowest_zero-k)
 
 pub overflow_add-end : goal.overflow_add-end
-overflow_add-end c = omega (arith, fits (goal.at.overflow_add-end (goal.at.overflow_add-end c).After-lowest_zero-k).After-lowest_zero-k)
+overflow_add-end c = omega (arith, fits (goal.at.overflow_add-end c).After-lowest_zero-k)
 
 pub offset_bounds-column-at : goal.offset_bounds-column-at
-offset_bounds-column-at c = omega (arith, fits (goal.at.offset_bounds-column-at (goal.at.offset_bounds-column-at c).After-multiply-arg-1).After-lowest_zero-k)
+offset_bounds-column-at c = omega (arith, fits (goal.at.offset_bounds-column-at c).After-lowest_zero-k)
 
 pub multiply-requires : goal.multiply-requires
 multiply-requires c =
