@@ -9,7 +9,6 @@ use Rattle.matrix_refusals.specs.Number.{Verdict}
 use Rattle.matrix_promises.specs.Refused.{Numbers, number_rules, coefficient_rule}
 use Rattle.matrix_refusals.specs.declared.Refusal.{Refusal}
 use Rattle.matrix_refusals.specs.declared.Check.{Check}
-use Rattle.matrix_refusals.specs.declared.Check.TheVariants as Check
 use Rattle.matrix_refusals.specs.declared.Check.TheVariants.{Fine}
 use Rattle.matrix_promises.proofs.Tables.{past-numbers}
 use Rattle.matrix_refusals.proofs.checks.Verdicts.{verdict-first}

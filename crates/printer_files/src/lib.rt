@@ -1,5 +1,6 @@
 // Reading the printer's input: its head, its cells, and the refusals in the paper's order.
 #![tactic(auto)]
+
 ghost use Rattle.std.specs.Prelude.{◌≡◌, length, drop};
 ghost use Rattle.printer_format.specs.File.{head_lines, cell_lines};
 ghost use Rattle.printer_reading.specs.Read.{CellsAsked};
