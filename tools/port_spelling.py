@@ -5,8 +5,8 @@ usage: tools/port_spelling.py        at the top of the repository
 
 It goes through clauses and `ghost use` lines (.rt), definitions and proofs (.antt) and wrong answers (.edit) below crates/, and
 through the pages README.md and docs/*.md, landing notes aside. Functions, exported names, strings and file names stay: no word of the
-list is one. Two names would fall together with others and get a name of their own: inRow (a variable in_row stands beside it) and
-getD, which the library spells get_or.
+list is one. Three names would fall together with others and get a name of their own: inRow (a variable in_row stands beside it), getD,
+which the library spells get_or, and where-some (another definition is where_some).
 """
 import glob
 import os
@@ -104,8 +104,106 @@ whereZero where_zero
 wrongLine wrong_line
 zeroRow zero_row
 """.split("\n") if line)
+# whole names of definitions and of fields, whose words a dash joined
+WHOLE = dict(line.split() for line in """
+advance-pair advance_pair
+c-below c_below
+c-is c_is
+col-fits col_fits
+column-at column_at
+column-most column_most
+column-room column_room
+column-size column_size
+column-zero column_zero
+columns-most columns_most
+count-rank count_rank
+count-state count_state
+deg-fits deg_fits
+degree-is degree_is
+e-is e_is
+f-below f_below
+f-is f_is
+first-rank first_rank
+from-fits from_fits
+from-residues from_residues
+height-most height_most
+i-fits i_fits
+i-pivot i_pivot
+i-short i_short
+if-equal if_equal
+j-fits j_fits
+k-fits k_fits
+k-most k_most
+k-pivot k_pivot
+k-short k_short
+k-some k_some
+k-term k_term
+l-fits l_fits
+l-pivot l_pivot
+l-short l_short
+left-polynomial left_polynomial
+left-right left_right
+lowest-a lowest_a
+lowest-b lowest_b
+next-at next_at
+next-size next_size
+one-fits one_fits
+ordered-by ordered_by
+pivot-degree pivot_degree
+pivot-of pivot_of
+pivots-are pivots_are
+places-most places_most
+product-below product_below
+product-size product_size
+r-divided r_divided
+r-move r_move
+r-room r_room
+r-rows r_rows
+r-size r_size
+rank-fits rank_fits
+rank-form rank_form
+rank-kept rank_kept
+reduce-row reduce_row
+right-left right_left
+right-polynomial right_polynomial
+rows-most rows_most
+second-bound second_bound
+second-kind second_kind
+second-rank second_rank
+some-columns some_columns
+spent-since spent_since
+to-fits to_fits
+to-residues to_residues
+u-bound u_bound
+u-degrees u_degrees
+u-divided u_divided
+u-move u_move
+u-one u_one
+u-residues u_residues
+u-room u_room
+u-rows u_rows
+u-short u_short
+u-size u_size
+v-bound v_bound
+v-columns v_columns
+v-degrees v_degrees
+v-move v_move
+v-multiplied v_multiplied
+v-one v_one
+v-residues v_residues
+v-room v_room
+v-short v_short
+v-size v_size
+weak-popov weak_popov
+where-some some_or_one
+wide-most wide_most
+with-entry with_entry
+y-fits y_fits
+zp-field zp_field
+""".split("\n") if line)
 # a part of a name, between dashes or at its ends
 PART = re.compile(r"(?<![\w'.\u2080-\u2089])(?:[\w'*+]+-)*(?:%s)(?![\w'\u2080-\u2089])(?:-[\w'*+]+)*" % "|".join(NAMES))
+ALL = re.compile(r"(?<![\w'-])(?:%s)(?![\w'\u2080-\u2089-])" % "|".join(sorted(WHOLE, key=len, reverse=True)))
 DOT = re.compile(r"(?<=\.)(?:%s)(?![\w'\u2080-\u2089])" % "|".join(NAMES))
 
 
@@ -124,6 +222,7 @@ def main():
             old = f.read()
         new = PART.sub(lambda m: respelled(m.group(0)), old)
         new = DOT.sub(lambda m: NAMES[m.group(0)], new)
+        new = ALL.sub(lambda m: WHOLE[m.group(0)], new)
         if new != old:
             changed += 1
             with open(path, "w", encoding="utf-8") as f:

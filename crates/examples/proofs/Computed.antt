@@ -12,7 +12,7 @@ use Rattle.theory_algebra.specs.Prime.{Prime}
 use Rattle.theory_algebra.specs.Residue.{Zp}
 use Rattle.theory_algebra.specs.Polynomial.{Below}
 use Rattle.theory_algebra.proofs.Primality.{prime-prop}
-use Rattle.theory_rings.specs.PrimeField.{zp-field}
+use Rattle.theory_rings.specs.PrimeField.{zp_field}
 use Rattle.theory_rings.specs.Series.{series}
 use Rattle.theory_lattice.specs.Row.{Row}
 use Rattle.theory_lattice.specs.PolynomialMatrix.{AllBounded}
@@ -46,8 +46,8 @@ pub by-any : {p : ℕ} (X : Prime p → 0 < p → Type 0) {P : Prime p} {some : 
 by-any X {P} {some} x P' some' = subst (X P') (le_prop some some') (subst (λ Q. X Q some) (prime-prop P P') x)
 
 -- the sharp bound of U is within its places
-u-room : (n w : ℕ) → 0 < n → 0 < w → suc ((n - 1) * (w - 1)) ≤ n * w
-u-room n w rows places =
+u_room : (n w : ℕ) → 0 < n → 0 < w → suc ((n - 1) * (w - 1)) ≤ n * w
+u_room n w rows places =
     let less : w - 1 ≤ w = omega arith in
     let one : n ≡ suc (n - 1) = omega arith in
     omega (arith, ap (λ k. k * w) one, N.suc-mul (n - 1) w, N.mul-le-mul_left (n - 1) less)
@@ -69,7 +69,7 @@ module _ {p n m d : ℕ} {a : List ℕ} (taken : Taken p n m d a) where
   w = d + 1
 
   abbrev K : Field (Zp p)
-  K = zp-field p prime
+  K = zp_field p prime
 
   abbrev A : ℕ → Row (Zp p)
   A = matrix_of (by_rows n m w) p positive a
@@ -96,7 +96,7 @@ module _ {p n m d : ℕ} {a : List ℕ} (taken : Taken p n m d a) where
       → Holding p n m w (written prime n m w t.R) (written prime n n (n * w) t.U) (written prime n n w t.V') t
   holding t r u v = record {
     R = held-written prime n m w t.R r;
-    U = held-written prime n n (n * w) t.U (λ i li j lj. below_more K.ring _ _ _ (u-room n w rows places) (u i j li lj));
+    U = held-written prime n n (n * w) t.U (λ i li j lj. below_more K.ring _ _ _ (u_room n w rows places) (u i j li lj));
     V' = held-written prime n n w t.V' (λ i li j lj. v i j li lj);
   }
 
@@ -117,7 +117,7 @@ module _ {p n m d : ℕ} {a : List ℕ} (taken : Taken p n m d a) where
           record {
             by = by-any (λ P some. ReducedBy p P some n m w a _ _ _ _ _) {P = prime} {some = positive} (
                 let facts = reduction-facts K n m w A columns places bounded count t run in
-                record { t = t; runs = run; holding = holding t facts.bounded facts.u-degrees facts.v-degrees; rank_is = refl });
+                record { t = t; runs = run; holding = holding t facts.bounded facts.u_degrees facts.v_degrees; rank_is = refl });
           },
           record {
             by = by-any (λ P some. ListedBy p P some n m w a _) {P = prime} {some = positive}
@@ -135,7 +135,7 @@ module _ {p n m d : ℕ} {a : List ℕ} (taken : Taken p n m d a) where
         formed = λ r u v right. answer-done (told-to right) (record {
           by = by-any (λ P some. PopovBy p P some n m w a _ _ _ _ _ _) {P = prime} {some = positive} (
               let facts = popov-facts K n m w A columns places bounded run' in
-              record { t = s; run = run'; holding = holding s facts.bounded facts.u-degrees facts.v-degrees; rank_is = refl });
+              record { t = s; run = run'; holding = holding s facts.bounded facts.u_degrees facts.v_degrees; rank_is = refl });
         });
       }
 

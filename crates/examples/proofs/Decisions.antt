@@ -54,7 +54,7 @@ unfolding both where-yes accepted
 in-range p n m d = map
     (λ x. record {
       modulus = x.0;
-      shape = record { rows = x.1.0.0; rows-most = x.1.0.1; columns = x.1.1.0.0; columns-most = x.1.1.0.1 };
+      shape = record { rows = x.1.0.0; rows_most = x.1.0.1; columns = x.1.1.0.0; columns_most = x.1.1.0.1 };
       degree = x.1.1.1;
     })
     (both (accepted p) (where-yes (Dec.and (Dec.and (dec_le 1 n) (dec_le n 8)) (Dec.and (Dec.and (dec_le 1 m) (dec_le m 8)) (dec_le d 63)))))

@@ -7,7 +7,7 @@ use native.Mathlib.Omega.{arith}
 use lib.ListN.{length, get_or, replicate, length-replicate}
 use Rattle.theory_algebra.specs.Prime.{Prime}
 use Rattle.theory_algebra.specs.Residue.{Zp}
-use Rattle.theory_rings.specs.PrimeField.{zp-field}
+use Rattle.theory_rings.specs.PrimeField.{zp_field}
 use Rattle.theory_rings.proofs.PrimeField.{field-zero}
 use Rattle.theory_lists.specs.Change.{imap}
 use Rattle.theory_lists.proofs.Change.{length-imap, get_or-imap}
@@ -36,7 +36,7 @@ block : (s i r : ℕ) → r < s → ((i * s + r) / s ≡ i) × ((i * s + r) % s 
 block s i r l = block-own s _ _ i r (N.mod-lt (i * s + r) (omega arith)) l (N.div-add-mod' (i * s + r) s)
 
 module _ {p : ℕ} (P : Prime p) where
-  number-zero : {c : Zp p} → c ≡ (zp-field p P).ring.𝟘 → c.val ≡ 0
+  number-zero : {c : Zp p} → c ≡ (zp_field p P).ring.𝟘 → c.val ≡ 0
   number-zero e = ap (λ (c : Zp p). c.val) e ∙ field-zero p P
 
   -- a matrix: "Cells stand row after row, in each row column after column."
@@ -44,7 +44,7 @@ module _ {p : ℕ} (P : Prime p) where
     unfoldable pub written : List ℕ
     written = listing (n * (m * w)) (λ x. (M (x / (m * w)) (x % (m * w) / w) (x % (m * w) % w)).val)
 
-    pub held-written : AllBounded (zp-field p P).ring n m w M → Held (by_rows n m w) p written M
+    pub held-written : AllBounded (zp_field p P).ring n m w M → Held (by_rows n m w) p written M
     unfolding written
     held-written bounded = record {
       size = length-listing (n * (m * w)) _;

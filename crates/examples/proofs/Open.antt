@@ -7,7 +7,7 @@ use native.Mathlib.Omega.{arith}
 use lib.ListN.{length, get_or, length-append, get_or-append}
 use lib.Seq.{get_or-append-add}
 use Rattle.theory_algebra.specs.Prime.{Prime}
-use Rattle.theory_rings.specs.PrimeField.{zp-field}
+use Rattle.theory_rings.specs.PrimeField.{zp_field}
 use Rattle.theory_rings.specs.Series.{series}
 use Rattle.theory_algebra.proofs.Cases.{case-le}
 use Rattle.theory_lists.proofs.Grid.{within}
@@ -54,7 +54,7 @@ module _ {p : ℕ} (modulus : Accepted p) where
   zero-taken = record {
     numbers = record {
       modulus = modulus;
-      shape = record { rows = omega arith; rows-most = omega arith; columns = omega arith; columns-most = omega arith };
+      shape = record { rows = omega arith; rows_most = omega arith; columns = omega arith; columns_most = omega arith };
       degree = omega arith;
     };
     residues = record { below = λ i l. let e : i ≡ 0 = omega arith in rw e (omega (arith, modulus.prime.two)) };
@@ -62,7 +62,7 @@ module _ {p : ℕ} (modulus : Accepted p) where
   }
 
   -- its only row is zero
-  zero-value : (P : Prime p) (some : 0 < p) → value (zp-field p P) 1 1 (matrix_of (by_rows 1 1 1) p some (0 ∷ []) 0) ≡ 0
+  zero-value : (P : Prime p) (some : 0 < p) → value (zp_field p P) 1 1 (matrix_of (by_rows 1 1 1) p some (0 ∷ []) 0) ≡ 0
   unfolding value_of last_nonzero
   zero-value P some =
       value-held p P 1 1 1 (held-matrix_of (by_rows 1 1 1) p some (0 ∷ []) refl zero-taken.residues) (omega arith) 0 (omega arith)
@@ -71,7 +71,7 @@ module _ {p : ℕ} (modulus : Accepted p) where
   zero-reduced : (P : Prime p) (some : 0 < p) → ReducedBy p P some 1 1 1 (0 ∷ []) (0 ∷ []) (1 ∷ []) (1 ∷ []) 0 0
   unfolding total
   zero-reduced P some = record {
-    t = begin (zp-field p P).ring (matrix_of (by_rows 1 1 1) p some (0 ∷ []));
+    t = begin (zp_field p P).ring (matrix_of (by_rows 1 1 1) p some (0 ∷ []));
     runs = halt (λ i j less inside. absurd (omega arith));
     holding = record {
       R = held-matrix_of (by_rows 1 1 1) p some (0 ∷ []) refl zero-taken.residues;
@@ -86,7 +86,7 @@ module _ {p : ℕ} (modulus : Accepted p) where
   unfolding total
   zero-listed P some = record {
     count = 0;
-    t = begin (zp-field p P).ring (matrix_of (by_rows 1 1 1) p some (0 ∷ []));
+    t = begin (zp_field p P).ring (matrix_of (by_rows 1 1 1) p some (0 ∷ []));
     runs = halt (λ i j less inside. absurd (omega arith));
     rows_are = ap (λ (v : ℕ). 0 + sign v * 2 ^ 0) (sym (zero-value P some));
   }
@@ -106,10 +106,10 @@ unfolding zero-answers
 w5-holds p modulus = ((zero-answers modulus, (refl, (refl, (refl, (refl, tt))))), (record { by = zero_held }, tt))
   where
     zero_held : (P : Prime p) (some : 0 < p)
-        → Held (by_rows 1 1 1) p (0 ∷ []) (λ _ _. det (series (zp-field p P).ring) 1 (matrix_of (by_rows 1 1 1) p some (0 ∷ [])))
+        → Held (by_rows 1 1 1) p (0 ∷ []) (λ _ _. det (series (zp_field p P).ring) 1 (matrix_of (by_rows 1 1 1) p some (0 ∷ [])))
     zero_held P some =
         let A = matrix_of (by_rows 1 1 1) p some (0 ∷ []) in
-        let entry = sym (det-one (series (zp-field p P).ring) A) in
+        let entry = sym (det-one (series (zp_field p P).ring) A) in
         held-matrix-same (by_rows 1 1 1) p (λ i j li lj. let e : i ≡ 0 = omega arith in let f : j ≡ 0 = omega arith in rw (e, f) entry)
         (held-matrix_of (by_rows 1 1 1) p some (0 ∷ []) refl (zero-taken modulus).residues)
 

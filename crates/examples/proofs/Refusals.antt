@@ -92,11 +92,11 @@ w9-holds service n m d given a = (
 
 pub w10-holds : w10
 w10-holds service p m d given a = (
-  (λ modulus. returns service p 9 m d given a 2 0 (inr (modulus, inl ((λ shape. omega (arith, shape.rows-most)), refl, refl)))),
+  (λ modulus. returns service p 9 m d given a 2 0 (inr (modulus, inl ((λ shape. omega (arith, shape.rows_most)), refl, refl)))),
   (λ some few. does_not service p 8 m d given a 2 (
     inl (λ e. omega (arith, e)),
     (
-      inr (record { rows = omega arith; rows-most = omega arith; columns = some; columns-most = few }),
+      inr (record { rows = omega arith; rows_most = omega arith; columns = some; columns_most = few }),
       (inl (λ e. omega (arith, e)), later service p 8 m d given a 2 (omega arith) (omega arith)),
     ),
   )),

@@ -10,7 +10,7 @@ use Rattle.matrix_promises.specs.Determinant.{IsDeterminant}
 use Rattle.examples.specs.Answers.{Answers}
 use Rattle.examples.specs.Example.{Name, named, Example, answers, determinant, Every, Gives}
 use Rattle.examples.specs.WExamples.{w1, w2, w3, w4, w6, w8, w_examples, All}
-use Rattle.examples.proofs.Opened.{decisions, arithmetic, buffers, first_kind, second-kind}
+use Rattle.examples.proofs.Opened.{decisions, arithmetic, buffers, first_kind, second_kind}
 use Rattle.examples.proofs.Listing.{listing, written}
 use Rattle.examples.proofs.Decisions.{both, where-yes, in-range, coefficients}
 use Rattle.examples.proofs.Computed.{Taken, computed, expanded, is-determinant}
@@ -49,7 +49,7 @@ all-given (e ∷ l) = both (given e) (all-given l)
 
 -- "Prove W1 to W12 as one statement over one list of the definitions."
 pub w-examples-given : All w_examples
-unfolding all-given computed written listing decisions arithmetic buffers first_kind second-kind
+unfolding all-given computed written listing decisions arithmetic buffers first_kind second_kind
 w-examples-given = (
   get (all-given w1) tt,
   (

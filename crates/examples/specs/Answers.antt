@@ -1,7 +1,7 @@
 -- What the definitions give for the matrix in a: n rows and m columns of polynomials of d + 1 places over Z/p.
 use Rattle.std.specs.Prelude.{◌≡◌, List, ℕ, ◌+◌, ◌<◌, length, get_or}
 use Rattle.theory_algebra.specs.Prime.{Prime}
-use Rattle.theory_rings.specs.PrimeField.{zp-field}
+use Rattle.theory_rings.specs.PrimeField.{zp_field}
 use Rattle.matrix_promises.specs.Held.{matrix_of}
 use Rattle.matrix_promises.specs.Layout.{by_rows}
 use Rattle.theory_reduction.specs.Pivot.{values, index}
@@ -25,4 +25,4 @@ pub record Answers (p n m d : ℕ) (a : List ℕ) : Type 0 where
 pub record ArePivots (p n m d : ℕ) (a l : List ℕ) : Type 0 where
   pub size : length l ≡ n
   pub index_is : (P : Prime p) (some : 0 < p) (i : ℕ) → i < n
-      → get_or l i 0 ≡ index m (values (zp-field p P) m (d + 1) (matrix_of (by_rows n m (d + 1)) p some a) i)
+      → get_or l i 0 ≡ index m (values (zp_field p P) m (d + 1) (matrix_of (by_rows n m (d + 1)) p some a) i)

@@ -41,20 +41,20 @@ use Rattle.matrix.specs.declared.determinant.DeterminantAnswer.TheVariants as De
 
 module _ {p reciprocal n m w : ℕ} {a r u v : List ℕ} (asked : WorkAsked p reciprocal n m w a r u v) where
   pub copy-fits : length a ≡ length r
-  copy-fits = asked.input.size ∙ sym asked.sizes.r-size
+  copy-fits = asked.input.size ∙ sym asked.sizes.r_size
 
   pub u-square : Square n (n * w) u
-  u-square = record { some = some; size = asked.sizes.u-size }
+  u-square = record { some = some; size = asked.sizes.u_size }
     where
       some : 0 < n * w
       some = N.mul-pos asked.input.bounds.rows asked.input.bounds.places
 
   pub v-square : Square n w v
-  v-square = record { some = asked.input.bounds.places; size = asked.sizes.v-size }
+  v-square = record { some = asked.input.bounds.places; size = asked.sizes.v_size }
 
   pub start-asked : {r' u' v' : List ℕ} → r' ≡ a → Diagonal n (n * w) u' → Diagonal n w v' → StartAsked p reciprocal n m w r' u' v'
-  start-asked r-is u-one v-one =
-      record { input = subst (Checked p reciprocal n m w) (sym r-is) asked.input; u-one = u-one; v-one = v-one }
+  start-asked r-is u_one v_one =
+      record { input = subst (Checked p reciprocal n m w) (sym r-is) asked.input; u_one = u_one; v_one = v_one }
 
 -- the reduction of the copy is that of the input
 pub of-copy : {p n m w rank count : ℕ} {a b r u v : List ℕ} → b ≡ a → IsReduction p n m w b r u v rank count → IsReduction p n m w a r u v rank count
@@ -71,7 +71,7 @@ module _ {c : WholeCall} (passed : Passed c) where
   order = in_order refl passed.told
 
   sizes : Sizes c.n c.m (c.d + 1) c.r c.u c.v
-  sizes = record { r-size = sized order 1; u-size = sized order 2; v-size = sized order 3 }
+  sizes = record { r_size = sized order 1; u_size = sized order 2; v_size = sized order 3 }
 
   module _ {q : ℕ} (q-is : q ≡ c.p) where
     pub work-asked : {reciprocal : ℕ} → Ready q reciprocal → WorkAsked q reciprocal c.n c.m (c.d + 1) c.a c.r c.u c.v

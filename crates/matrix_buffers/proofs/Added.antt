@@ -13,7 +13,7 @@ use Rattle.theory_algebra.specs.Residue.{Zp}
 use Rattle.theory_algebra.specs.Series.{mono}
 use Rattle.theory_algebra.proofs.Cases.{case-le}
 use Rattle.theory_algebra.proofs.Matrix.{setrow-same}
-use Rattle.theory_rings.specs.PrimeField.{zp-field}
+use Rattle.theory_rings.specs.PrimeField.{zp_field}
 use Rattle.theory_rings.proofs.PrimeField.{field-add, field-mul, field-neg, field-zero}
 use Rattle.theory_rings.specs.Series.{series}
 use Rattle.theory_rings.proofs.Series.{add_at, neg-mono, mono-mul-low, mono-mul-high}
@@ -30,7 +30,7 @@ use Rattle.matrix_buffers.proofs.Written.{held-written}
 
 module _ (p : ℕ) (P : Prime p) where
   abbrev R : CommRing (Zp p)
-  R = (zp-field p P).ring
+  R = (zp_field p P).ring
 
   -- f plus c·x^e times g, by numbers
   sum_number : (c : Zp p) (e : ℕ) (f g : ℕ → Zp p) (t : ℕ)

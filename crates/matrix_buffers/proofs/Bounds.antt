@@ -7,16 +7,16 @@ use Rattle.matrix_buffers.specs.Bounds.{Bounds}
 module _ {n m w : ℕ} (bounds : Bounds n m w) where
   -- eight times as many as some few
   rows_of : (x most : ℕ) → x ≤ most → n * x ≤ 8 * most
-  rows_of x most few = mul-le-mul bounds.rows-most few
+  rows_of x most few = mul-le-mul bounds.rows_most few
 
   pub row-few : m * w ≤ 512
-  row-few = let most : m * w ≤ 8 * 64 = mul-le-mul bounds.columns-most bounds.places-most in omega arith
+  row-few = let most : m * w ≤ 8 * 64 = mul-le-mul bounds.columns_most bounds.places_most in omega arith
 
   pub matrix-few : n * (m * w) ≤ 4096
   matrix-few = omega (arith, rows_of (m * w) 512 row-few)
 
   pub cell-few : n * w ≤ 512
-  cell-few = omega (arith, rows_of w 64 bounds.places-most)
+  cell-few = omega (arith, rows_of w 64 bounds.places_most)
 
   pub square-few : n * (n * w) ≤ 4096
   square-few = omega (arith, rows_of (n * w) 512 cell-few)

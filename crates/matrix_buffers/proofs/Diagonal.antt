@@ -10,7 +10,7 @@ use Rattle.theory_algebra.specs.Matrix.{identity}
 use Rattle.theory_algebra.specs.Prime.{Prime}
 use Rattle.theory_algebra.specs.Residue.{Zp}
 use Rattle.theory_algebra.proofs.Matrix.{identity-same, identity-other}
-use Rattle.theory_rings.specs.PrimeField.{zp-field}
+use Rattle.theory_rings.specs.PrimeField.{zp_field}
 use Rattle.theory_rings.proofs.PrimeField.{field-zero, field-one}
 use Rattle.theory_algebra.proofs.Series.{mono-same}
 use Rattle.theory_rings.specs.Series.{series}
@@ -23,7 +23,7 @@ use Rattle.theory_lists.proofs.Place.{spot-own}
 
 module _ (p : ℕ) (P : Prime p) (n w : ℕ) (some : 0 < w) where
   abbrev R : CommRing (Zp p)
-  R = (zp-field p P).ring
+  R = (zp_field p P).ring
 
   -- the numbers of the identity
   one_number : (i : ℕ) → (identity (series R) i i 0).val ≡ 1

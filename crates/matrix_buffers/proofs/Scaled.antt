@@ -8,7 +8,7 @@ use Rattle.theory_algebra.specs.Matrix.{transpose, scalerow}
 use Rattle.theory_algebra.specs.Prime.{Prime}
 use Rattle.theory_algebra.specs.Residue.{Zp}
 use Rattle.theory_algebra.specs.Series.{const}
-use Rattle.theory_rings.specs.PrimeField.{zp-field}
+use Rattle.theory_rings.specs.PrimeField.{zp_field}
 use Rattle.theory_rings.proofs.PrimeField.{field-mul}
 use Rattle.theory_rings.specs.Series.{series}
 use Rattle.theory_rings.proofs.Series.{const-mul-at}
@@ -23,7 +23,7 @@ use Rattle.matrix_buffers.proofs.Written.{held-written}
 
 module _ (p : ℕ) (P : Prime p) where
   abbrev R : CommRing (Zp p)
-  R = (zp-field p P).ring
+  R = (zp_field p P).ring
 
   -- c times f, by numbers
   multiple-number : (c : Zp p) (f : ℕ → Zp p) (t : ℕ) → ((series R).mul (const R c) f t).val ≡ c.val * (f t).val % p

@@ -7,11 +7,11 @@ use Rattle.theory_lists.specs.Coefficients.{Coefficients}
 -- "rows n, columns m: 1 to 8 each", "degree limit d: 0 to 63": a cell has w = d + 1 places
 pub record Bounds (n m w : ℕ) : Type 0 where
   pub rows : 0 < n
-  pub rows-most : n ≤ 8
+  pub rows_most : n ≤ 8
   pub columns : 0 < m
-  pub columns-most : m ≤ 8
+  pub columns_most : m ≤ 8
   pub places : 0 < w
-  pub places-most : w ≤ 64
+  pub places_most : w ≤ 64
 
 -- a matrix of such a shape in a buffer of its length, of residues modulo a prime
 pub record Checked (p reciprocal n m w : ℕ) (a : List ℕ) : Type 0 where

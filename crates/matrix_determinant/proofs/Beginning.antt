@@ -10,7 +10,7 @@ use Rattle.theory_algebra.specs.Matrix.{Same}
 use Rattle.theory_algebra.specs.Prime.{Prime}
 use Rattle.theory_algebra.specs.Residue.{Zp}
 use Rattle.theory_algebra.proofs.Matrix.{identity-same}
-use Rattle.theory_rings.specs.PrimeField.{zp-field}
+use Rattle.theory_rings.specs.PrimeField.{zp_field}
 use Rattle.theory_rings.specs.Series.{series}
 use Rattle.theory_lattice.specs.Row.{Row}
 use Rattle.theory_lattice.proofs.Coefficients.{below_more}
@@ -31,7 +31,7 @@ module _ {p : ℕ} (P : Prime p) {n w wide : ℕ} (rows : 0 < n) (places : 0 < w
     {A : ℕ → Row (Zp p)} {a r column product : List ℕ} (input : Held (by_rows n n w) p a A)
     (laid_out : Laid n w wide a r column product) where
   abbrev K : Field (Zp p)
-  K = zp-field p P
+  K = zp_field p P
 
   -- no row is taken out
   all : (s : ℕ) → s < n → skip n s < n

@@ -9,7 +9,7 @@ use Rattle.theory_algebra.specs.Matrix.{Same}
 use Rattle.theory_algebra.specs.Prime.{Prime}
 use Rattle.theory_algebra.specs.Residue.{Zp}
 use Rattle.theory_algebra.proofs.Elementary.{addrow-column}
-use Rattle.theory_rings.specs.PrimeField.{zp-field}
+use Rattle.theory_rings.specs.PrimeField.{zp_field}
 use Rattle.theory_rings.proofs.PrimeField.{field-zero}
 use Rattle.theory_rings.specs.Series.{series}
 use Rattle.theory_lattice.specs.Row.{Row}
@@ -25,7 +25,7 @@ use Rattle.matrix_buffers.specs.Added.{RowAdded}
 use Rattle.matrix_rows.specs.Asked.{Short, RowsInBuffer}
 use Rattle.theory_reduction.specs.Pivot.{value, values, height}
 use Rattle.theory_reduction.specs.Pair.{StepRows}
-use Rattle.theory_reduction.specs.Step.{factor, subtract, reduce-row}
+use Rattle.theory_reduction.specs.Step.{factor, subtract, reduce_row}
 use Rattle.theory_reduction.proofs.Pair.{pair-rows, pair_same}
 use Rattle.matrix_pivots.specs.NextPair.{NextAsked, IsNextOf}
 use Rattle.matrix_pivots.specs.Pivot.{values_of, zero_row, degree_at, Pivots, AllPivots, MatrixAsked, SumAsked}
@@ -54,7 +54,7 @@ reach m budget k pivots = degree_at pivots k + (budget - sum m pivots)
 module _ {p : ℕ} (P : Prime p) {m w wide budget : ℕ} {whole f : ℕ → Zp p} {r column : List ℕ} (columns : 0 < m)
     (held : RowsHeld p P m w wide budget whole f r column) where
   abbrev K : Field (Zp p)
-  K = zp-field p P
+  K = zp_field p P
 
   abbrev T : ℕ → Row (Zp p)
   T = held.T
@@ -83,13 +83,13 @@ module _ {p : ℕ} (P : Prime p) {m w wide budget : ℕ} {whole f : ℕ → Zp p
       reducing = let (q, q-is) = pair_same (suc m) m _ _ agree next.0 (l, k) next.1 in pair-rows q q-is
 
       reach-is : reach m budget k pivots ≡ height m (values K m w T k) + (budget - degrees K w m T)
-      reach-is = rw (sum-now, height-now k reducing.k-fits) refl
+      reach-is = rw (sum-now, height-now k reducing.k_fits) refl
 
       -- the places of the parted column in row k, and what is added to row l
       cell-short : Short wide (reach m budget k pivots) 1 (spot 1 wide k) column
       cell-short = record {
         zero = λ j t lj from lt.
-            held.parted.at k j t reducing.k-fits lj lt
+            held.parted.at k j t reducing.k_fits lj lt
             ∙ ap (λ (x : Zp p). x.val) (stage-short K w (wide - 1) whole held.stage l k reducing t (omega (arith, reach-is)))
             ∙ field-zero p P;
       }
@@ -99,19 +99,19 @@ module _ {p : ℕ} (P : Prime p) {m w wide budget : ℕ} {whole f : ℕ → Zp p
         arith,
         stage-room K w (wide - 1) whole held.stage l k reducing,
         reach-is,
-        height-now l reducing.l-fits,
-        height-now k reducing.k-fits,
+        height-now l reducing.l_fits,
+        height-now k reducing.k_fits,
       )
 
       -- after the step
       module _ {r' column' : List ℕ} {x : Lowered} (lowered : IsLowered p m w l k (get_or pivots l zero_row) (get_or pivots k zero_row) r r' x)
           (added : RowAdded p 1 wide x.multiple.negated.0 x.multiple.exponent l k column column') where
-        next-stage : Stage K w (wide - 1) whole budget m (reduce-row K m w l k T) f
+        next-stage : Stage K w (wide - 1) whole budget m (reduce_row K m w l k T) f
         next-stage = stage-step K w (wide - 1) whole held.stage l k reducing
 
         rows_on : RowsHeld p P m w wide budget whole f r' column'
         rows_on = record {
-          T = reduce-row K m w l k T;
+          T = reduce_row K m w l k T;
           matrix = step-held p P (suc m) m w columns held.matrix found l k reducing lowered;
           parted = held-matrix-same (by_rows (suc m) 1 wide) p same
               (step-followed p P (suc m) m w columns held.matrix found l k reducing lowered.factor 1 wide held.parted added
@@ -120,13 +120,13 @@ module _ {p : ℕ} (P : Prime p) {m w wide budget : ℕ} {whole f : ℕ → Zp p
           stage = next-stage;
         }
           where
-            same : Same (suc m) 1 (subtract K.ring l k (factor K m w (T l) (T k)) (λ s _. T s m)) (λ s _. reduce-row K m w l k T s m)
+            same : Same (suc m) 1 (subtract K.ring l k (factor K m w (T l) (T k)) (λ s _. T s m)) (λ s _. reduce_row K m w l k T s m)
             same i j li lj = addrow-column (series K.ring) T l k ((series K.ring).neg (factor K m w (T l) (T k))) m i j
 
 -- where the loop stands: what was asked of the first buffers is true of these, and of whatever stage those were, these are
 pub record Going (p reciprocal m w wide budget : ℕ) (r₀ column₀ r column : List ℕ) (pivots : List Pivot) : Type 0 where
   pub asked : ReduceAsked p reciprocal m w wide budget r column
-  pub pivots-are : Pivots (suc m) m (values_of m w r) pivots
+  pub pivots_are : Pivots (suc m) m (values_of m w r) pivots
   pub pivots-size : length pivots ≡ 8
   pub by : (P : Prime p) (whole f : ℕ → Zp p) → RowsHeld p P m w wide budget whole f r₀ column₀
       → RowsHeld p P m w wide budget whole f r column
@@ -135,13 +135,13 @@ pub record Going (p reciprocal m w wide budget : ℕ) (r₀ column₀ r column :
 
 module _ {p reciprocal m w wide budget : ℕ} {r column : List ℕ} (asked : ReduceAsked p reciprocal m w wide budget r column) where
   pub matrix-asked : MatrixAsked (suc m) m w r
-  matrix-asked = record { size = asked.held.matrix.size; rows = asked.sizes.columns-most; columns = asked.columns }
+  matrix-asked = record { size = asked.held.matrix.size; rows = asked.sizes.columns_most; columns = asked.columns }
 
   pub going_start : {pivots : List Pivot} → AllPivots (suc m) m (values_of m w r) pivots
       → Going p reciprocal m w wide budget r column r column pivots
   going_start found = record {
     asked = asked;
-    pivots-are = found.pivots-are;
+    pivots_are = found.pivots_are;
     pivots-size = found.size;
     by = λ P whole f h. h;
     r-same = refl;
@@ -150,19 +150,19 @@ module _ {p reciprocal m w wide budget : ℕ} {r column : List ℕ} (asked : Red
 
 module _ {p reciprocal m w wide budget : ℕ} {r₀ column₀ r column : List ℕ} {pivots : List Pivot}
     (now : Going p reciprocal m w wide budget r₀ column₀ r column pivots) where
-  open now use {asked, pivots-are}
+  open now use {asked, pivots_are}
 
   pub next-asked : NextAsked (suc m) pivots
-  next-asked = Next.next-asked asked.sizes.columns-most asked.columns (omega (arith, asked.sizes.columns-most)) pivots-are
+  next-asked = Next.next-asked asked.sizes.columns_most asked.columns (omega (arith, asked.sizes.columns_most)) pivots_are
 
   pub going-sum : (sum m pivots ≤ budget) × SumAsked (suc m) pivots
   going-sum = (
-    within asked.prime asked.columns asked.held pivots-are,
-    sum-asked asked.prime asked.columns asked.held pivots-are asked.sizes.columns-most asked.sizes.wide-most,
+    within asked.prime asked.columns asked.held pivots_are,
+    sum-asked asked.prime asked.columns asked.held pivots_are asked.sizes.columns_most asked.sizes.wide_most,
   )
 
   pub going-stop : IsNextOf (suc m) m (values_of m w r) Nothing → ColumnsReduced p m w wide budget r₀ column₀ r column pivots
-  going-stop none = record { pivots-are = pivots-are; none = none; by = now.by }
+  going-stop none = record { pivots_are = pivots_are; none = none; by = now.by }
 
   module _ {l k : ℕ} (next : IsNextOf (suc m) m (values_of m w r) (Rows l k)) where
     places : 0 < wide
@@ -172,13 +172,13 @@ module _ {p reciprocal m w wide budget : ℕ} {r₀ column₀ r column : List �
     listed = pair-rows next.0 next.1
 
     pub rows_fit : (l < 8) × (k < 8)
-    rows_fit = (omega (arith, listed.l-fits, asked.sizes.columns-most), omega (arith, listed.k-fits, asked.sizes.columns-most))
+    rows_fit = (omega (arith, listed.l_fits, asked.sizes.columns_most), omega (arith, listed.k_fits, asked.sizes.columns_most))
 
     pub reach-fits : degree_at pivots k + (budget - sum m pivots) ≤ 512
-    reach-fits = omega (arith, cell_room asked.prime asked.columns asked.held pivots-are next places, asked.sizes.wide-most)
+    reach-fits = omega (arith, cell_room asked.prime asked.columns asked.held pivots_are next places, asked.sizes.wide_most)
 
     pub lower-asked : LowerAsked p reciprocal m w l k (get_or pivots l zero_row) (get_or pivots k zero_row) r
-    lower-asked = Rows-of.lower-asked (suc m) m w asked.columns r asked.held.matrix.size pivots-are asked.ready asked.prime
+    lower-asked = Rows-of.lower-asked (suc m) m w asked.columns r asked.held.matrix.size pivots_are asked.ready asked.prime
         (held-coefficients (by_rows (suc m) m w) p asked.held.matrix) listed
 
     pub column-asked : {e c f : ℕ} → Factor p m w l k (get_or pivots l zero_row) (get_or pivots k zero_row) r e c f
@@ -187,20 +187,20 @@ module _ {p reciprocal m w wide budget : ℕ} {r₀ column₀ r column : List �
       multiplier = record {
         ready = asked.ready;
         factor = negative-below g;
-        room = omega (arith, g.e-is, cell_room asked.prime asked.columns asked.held pivots-are next places);
+        room = omega (arith, g.e_is, cell_room asked.prime asked.columns asked.held pivots_are next places);
       };
-      l-fits = omega (arith, asked.held.parted.size, line-end l (suc m) (1 * wide) listed.l-fits);
-      k-fits = omega (arith, asked.held.parted.size, line-end k (suc m) (1 * wide) listed.k-fits);
+      l_fits = omega (arith, asked.held.parted.size, line-end l (suc m) (1 * wide) listed.l_fits);
+      k_fits = omega (arith, asked.held.parted.size, line-end k (suc m) (1 * wide) listed.k_fits);
       differ = listed.apart;
       residues = held-coefficients (by_rows (suc m) 1 wide) p asked.held.parted;
-      short = cell-short asked.prime asked.columns asked.held pivots-are next places;
+      short = cell-short asked.prime asked.columns asked.held pivots_are next places;
     }
 
     -- after the step
     module _ {r' : List ℕ} {x : Lowered} (lowered : IsLowered p m w l k (get_or pivots l zero_row) (get_or pivots k zero_row) r r' x) where
       pub falls : total (suc m) (values_of m w r') < total (suc m) (values_of m w r)
-      falls = step_falls p asked.prime (suc m) m w asked.columns asked.held.matrix pivots-are l k
-          (reducing asked.prime asked.columns asked.held pivots-are next places) lowered
+      falls = step_falls p asked.prime (suc m) m w asked.columns asked.held.matrix pivots_are l k
+          (reducing asked.prime asked.columns asked.held pivots_are next places) lowered
 
       pub going_on : {column' : List ℕ} → RowAdded p 1 wide x.multiple.negated.0 x.multiple.exponent l k column column'
           → Going p reciprocal m w wide budget r₀ column₀ r' column' (set pivots l x.pivot)
@@ -212,12 +212,12 @@ module _ {p reciprocal m w wide budget : ℕ} {r₀ column₀ r column : List �
           sizes = asked.sizes;
           whole = asked.whole;
           f = asked.f;
-          held = rows_on asked.prime asked.columns asked.held pivots-are next places lowered added;
+          held = rows_on asked.prime asked.columns asked.held pivots_are next places lowered added;
         };
-        pivots-are = Rows-of.pivots-after asked.held.matrix.size listed.l-fits lowered pivots-are
+        pivots_are = Rows-of.pivots-after asked.held.matrix.size listed.l_fits lowered pivots_are
             (omega (arith, rows_fit, now.pivots-size));
         pivots-size = length-set pivots l x.pivot ∙ now.pivots-size;
-        by = λ P whole f h. rows_on P asked.columns (now.by P whole f h) pivots-are next places lowered added;
-        r-same = lowered.r-move.size ∙ now.r-same;
+        by = λ P whole f h. rows_on P asked.columns (now.by P whole f h) pivots_are next places lowered added;
+        r-same = lowered.r_move.size ∙ now.r-same;
         column-same = added.size ∙ now.column-same;
       }

@@ -14,14 +14,14 @@ use Rattle.matrix_determinant.proofs.LastColumn.{one-column}
 
 module _ {n w wide : ℕ} {a r column product : List ℕ} (asked : LayAsked n w wide a r column product) where
   pub line-fits : (n - 1) * w ≤ length r
-  line-fits = omega (arith, asked.r-room, one_line n ((n - 1) * w) asked.rows)
+  line-fits = omega (arith, asked.r_room, one_line n ((n - 1) * w) asked.rows)
 
   pub input-asked : PartAsked n w wide n a (take (n * ((n - 1) * w)) r) (take (n * wide) column)
   input-asked = record {
     columns = asked.rows;
     inside = λ s ls. omega (arith, asked.size, line-end s n (n * w) ls, ap (λ (x : ℕ). x * (n * w)) (skip-low n s ls));
-    next-size = length-take-le _ r asked.r-room;
-    column-size = length-take-le _ column asked.column-room ∙ sym (one-column n wide);
+    next_size = length-take-le _ r asked.r_room;
+    column_size = length-take-le _ column asked.column_room ∙ sym (one-column n wide);
     widened = asked.widened;
   }
 
@@ -29,6 +29,6 @@ module _ {n w wide : ℕ} {a r column product : List ℕ} (asked : LayAsked n w 
   pub laid : {r' column' product' : List ℕ} (beside under : List ℕ) → Parted n w wide n a r' column' → Diagonal 1 wide product'
       → Laid n w wide a (r' ++ beside) (column' ++ under) product'
   laid {r'} {column'} beside under parted one = record {
-    parted = rw (take_at r' beside _ parted.next-size, take_at column' under _ (parted.column-size ∙ one-column n wide)) parted;
+    parted = rw (take_at r' beside _ parted.next_size, take_at column' under _ (parted.column_size ∙ one-column n wide)) parted;
     one = one;
   }

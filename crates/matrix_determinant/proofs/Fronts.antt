@@ -11,7 +11,7 @@ use Rattle.theory_algebra.specs.Field.{Field}
 use Rattle.theory_algebra.specs.Polynomial.{Below}
 use Rattle.theory_algebra.specs.Prime.{Prime}
 use Rattle.theory_algebra.specs.Residue.{Zp}
-use Rattle.theory_rings.specs.PrimeField.{zp-field}
+use Rattle.theory_rings.specs.PrimeField.{zp_field}
 use Rattle.theory_rings.specs.Series.{series}
 use Rattle.theory_lattice.proofs.Coefficients.{below_more}
 use Rattle.theory_lists.proofs.Change.{get_d_past}
@@ -40,7 +40,7 @@ held-single {w = w} {l = l} size h = record {
 -- the first budget is within a wide cell
 pub budget-fits : {p reciprocal n w wide : ℕ} {r column product : List ℕ} → RunAsked p reciprocal n w wide r column product
     → n * (w - 1) ≤ 512
-budget-fits asked = omega (arith, asked.held.front.rows.stage.within, asked.sizes.wide-most)
+budget-fits asked = omega (arith, asked.held.front.rows.stage.within, asked.sizes.wide_most)
 
 -- where the loop over the stages stands
 pub record Staging (p reciprocal n w wide : ℕ) (r₀ column₀ product₀ r column product : List ℕ) (m budget : ℕ) : Type 0 where
@@ -69,11 +69,11 @@ module _ {p reciprocal n w wide : ℕ} {r₀ column₀ product₀ r column produ
 
   sizes : Sizes m w wide
   sizes = record {
-    columns-most = omega (arith, now.reached, asked.sizes.columns-most);
+    columns_most = omega (arith, now.reached, asked.sizes.columns_most);
     places = asked.sizes.places;
-    places-most = asked.sizes.places-most;
+    places_most = asked.sizes.places_most;
     widened = asked.sizes.widened;
-    wide-most = asked.sizes.wide-most;
+    wide_most = asked.sizes.wide_most;
   }
 
   -- a stage has no more rows than the first one
@@ -86,10 +86,10 @@ module _ {p reciprocal n w wide : ℕ} {r₀ column₀ product₀ r column produ
   -- where a stage lies in the buffers
   pub fits : (suc m * (m * w) ≤ length r) × (suc m * wide ≤ length column) × (m * w ≤ 512) × (m < 8)
   fits = (
-    omega (arith, asked.r-room, now.r-same, N.mul-le-mul fewer (N.mul-le-mul_right w now.reached)),
-    omega (arith, asked.column-room, now.column-same, N.mul-le-mul_right wide fewer),
-    N.mul-le-mul (N.le_of_lt sizes.columns-most) sizes.places-most,
-    sizes.columns-most,
+    omega (arith, asked.r_room, now.r-same, N.mul-le-mul fewer (N.mul-le-mul_right w now.reached)),
+    omega (arith, asked.column_room, now.column-same, N.mul-le-mul_right wide fewer),
+    N.mul-le-mul (N.le_of_lt sizes.columns_most) sizes.places_most,
+    sizes.columns_most,
   )
 
   pub stage-asked : 0 < m → StageAsked p reciprocal m w wide budget (take (suc m * (m * w)) r) (take (suc m * wide) column) product
@@ -140,7 +140,7 @@ module _ {p reciprocal n w wide : ℕ} {r₀ column₀ product₀ r column produ
       open last_one use {front as held}
 
       abbrev K : Field (Zp p)
-      K = zp-field p P
+      K = zp_field p P
 
       abbrev factor : ℕ → Zp p
       factor = held.rows.T 0 m
@@ -157,7 +157,7 @@ module _ {p reciprocal n w wide : ℕ} {r₀ column₀ product₀ r column produ
       last-asked : MultiplyAsked p reciprocal product (take wide column)
       last-asked = multiply-asked p P held.so_far entry asked.ready
           (below_more K.ring _ _ _ (omega (arith, held.size, sizes.places, sizes.widened)) last.1)
-          (omega (arith, held.size, sizes.wide-most))
+          (omega (arith, held.size, sizes.wide_most))
 
       last-held : {product' : List ℕ} → product' ≡ signed_product p false product (take wide column) → length product' ≡ length product
           → Held (by_rows 1 1 wide) p product' (λ _ _. whole)

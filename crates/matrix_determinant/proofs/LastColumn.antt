@@ -105,8 +105,8 @@ module _ {m w wide k : ℕ} {r next₀ column₀ : List ℕ} (asked : PartAsked 
     -- where the cells stand that are written next
     pub ends : (s * ((m - 1) * w) + (m - 1) * w ≤ length next) × (s * wide + wide ≤ length column)
     ends = (
-      omega (arith, now.next-filled.size, asked.next-size, line-end s m kept more),
-      omega (arith, now.column-filled.size, asked.column-size, one-column m wide, line-end s m wide more),
+      omega (arith, now.next-filled.size, asked.next_size, line-end s m kept more),
+      omega (arith, now.column-filled.size, asked.column_size, one-column m wide, line-end s m wide more),
     )
 
     -- i is the row that is read
@@ -114,12 +114,12 @@ module _ {m w wide k : ℕ} {r next₀ column₀ : List ℕ} (asked : PartAsked 
       pub next-asked : CellAsked (s * ((m - 1) * w)) ((m - 1) * w)
           (take (i * (m * w) + (m - 1) * w - i * (m * w)) (drop (i * (m * w)) r)) next
       next-asked = rw is
-          (fill-asked kept start r now.next-filled more (omega (arith, row-parts s more)) (omega arith) asked.next-size)
+          (fill-asked kept start r now.next-filled more (omega (arith, row-parts s more)) (omega arith) asked.next_size)
 
       pub last-asked : CellAsked (s * wide) wide
           (take (i * (m * w) + (m - 1) * w + w - (i * (m * w) + (m - 1) * w)) (drop (i * (m * w) + (m - 1) * w) r)) column
       last-asked = rw is (fill-asked w (λ j. start j + kept) r now.column-filled more (omega (arith, row-parts s more)) asked.widened
-          (asked.column-size ∙ one-column m wide))
+          (asked.column_size ∙ one-column m wide))
 
       pub parting-turn : {next' column' : List ℕ}
           → CellFilled (s * ((m - 1) * w)) ((m - 1) * w) (take (i * (m * w) + (m - 1) * w - i * (m * w)) (drop (i * (m * w)) r)) next next'
@@ -135,17 +135,17 @@ module _ {m w wide k : ℕ} {r next₀ column₀ : List ℕ} (asked : PartAsked 
   pub parting-end : {next column : List ℕ} {s : ℕ} → Parting m w wide k r next₀ column₀ next column s → m ≤ s
       → Parted m w wide k r next column
   parting-end {next} {column} {s} now all = record {
-    next-size = now.next-filled.size ∙ asked.next-size;
-    next-at = λ i j t li lj lt.
+    next_size = now.next-filled.size ∙ asked.next_size;
+    next_at = λ i j t li lj lt.
         let inside : j * w + t < kept = within j t (m - 1) w lj lt in
         now.next-filled.written i (j * w + t) (omega arith) inside
         ∙ get_d_part (start i) kept r (omega (arith, row-parts i li)) (j * w + t) inside;
-    column-size = now.column-filled.size ∙ asked.column-size;
-    column-at = λ i t li lt.
+    column_size = now.column-filled.size ∙ asked.column_size;
+    column_at = λ i t li lt.
         cell i t li (omega (arith, asked.widened))
         ∙ get_d_part (start i + kept) w r (last i li) t lt
         ∙ ap (λ (x : ℕ). get_or r x 0) (omega arith);
-    column-zero = λ i t li from lt.
+    column_zero = λ i t li from lt.
         cell i t li lt
         ∙ get_d_past (part (start i + kept) w r) t (omega (arith, length_part (start i + kept) w r (last i li)));
   }
@@ -163,18 +163,18 @@ module _ {p rows m w wide k : ℕ} {r next column : List ℕ} {M : ℕ → Row (
     -- the rows that are left, without their last entries
     pub held_next : Held (by_rows m (m - 1) w) p next (λ s. M (skip k s))
     held_next = record {
-      size = d.next-size;
-      at = λ s j t ls lj lt. d.next-at s j t ls lj lt ∙ h.at (skip k s) j t (left s ls) (omega arith) lt;
+      size = d.next_size;
+      at = λ s j t ls lj lt. d.next_at s j t ls lj lt ∙ h.at (skip k s) j t (left s ls) (omega arith) lt;
       beyond = λ s j t ls lj past. h.beyond (skip k s) j t (left s ls) (omega arith) past;
     }
 
     -- and these, in wide cells
     pub held-column : 0 < m → w ≤ wide → Held (by_rows m 1 wide) p column (λ s _. M (skip k s) (m - 1))
     held-column columns widened = record {
-      size = d.column-size;
+      size = d.column_size;
       at = λ s j t ls lj lt. let first : j ≡ 0 = omega arith in rw first (case-le w t
-          (λ past. d.column-zero s t ls past lt ∙ sym (h.beyond (skip k s) (m - 1) t (left s ls) (omega arith) past))
-          (λ inside. d.column-at s t ls inside ∙ h.at (skip k s) (m - 1) t (left s ls) (omega arith) inside));
+          (λ past. d.column_zero s t ls past lt ∙ sym (h.beyond (skip k s) (m - 1) t (left s ls) (omega arith) past))
+          (λ inside. d.column_at s t ls inside ∙ h.at (skip k s) (m - 1) t (left s ls) (omega arith) inside));
       beyond = λ s j t ls lj past. h.beyond (skip k s) (m - 1) t (left s ls) (omega arith) (omega arith);
     }
 

@@ -12,7 +12,7 @@ use Rattle.theory_algebra.specs.Polynomial.{Below}
 use Rattle.theory_algebra.specs.Prime.{Prime}
 use Rattle.theory_algebra.specs.Residue.{Zp}
 use Rattle.theory_algebra.proofs.Cases.{case-le}
-use Rattle.theory_rings.specs.PrimeField.{zp-field}
+use Rattle.theory_rings.specs.PrimeField.{zp_field}
 use Rattle.theory_rings.proofs.PrimeField.{field-neg, field-zero, field-one}
 use Rattle.theory_algebra.proofs.Ring.{one-mul, neg-mul}
 use Rattle.theory_rings.specs.Series.{series}
@@ -42,13 +42,13 @@ module _ {x y p reciprocal : ℕ} {a b : List ℕ} (x-used : x ≡ used_places a
   used-product k = total-same (suc k) _ _ (λ i _. ap₂ ◌*◌ (used-at a x x-used i) (used-at b y y-used (k - i)))
 
   front : length (take (length a) room) ≡ length a
-  front = length-take-le (length a) room (omega (arith, asked.places-most))
+  front = length-take-le (length a) room (omega (arith, asked.places_most))
 
   pub used-asked : ProductAsked p reciprocal (take x a) (take y b) (take (length a) room)
   used-asked = record {
     ready = asked.product.ready;
     room = λ k past. ap (λ (z : ℕ). z % p) (used-product k) ∙ asked.product.room k (omega (arith, front));
-    short = omega (arith, length-take-le x a (omega (arith, (ends-height a).within)), (ends-height a).within, asked.places-most);
+    short = omega (arith, length-take-le x a (omega (arith, (ends-height a).within)), (ends-height a).within, asked.places_most);
   }
 
   -- it is made in front of the room
@@ -69,7 +69,7 @@ module _ {x y p reciprocal : ℕ} {a b : List ℕ} (x-used : x ≡ used_places a
 
 module _ (p : ℕ) (P : Prime p) {a b : List ℕ} {f g : ℕ → Zp p} (a-holds : Holds p a f) (b-holds : Holds p b g) where
   abbrev K : Field (Zp p)
-  K = zp-field p P
+  K = zp_field p P
 
   abbrev product : ℕ → Zp p
   product = (series K.ring).mul f g
@@ -83,7 +83,7 @@ module _ (p : ℕ) (P : Prime p) {a b : List ℕ} {f g : ℕ → Zp p} (a-holds 
       room = λ k past. sym (product-number p P a b f g a-holds b-holds k) ∙ ap (λ (x : Zp p). x.val) (below k past) ∙ field-zero p P;
       short = omega arith;
     };
-    places-most = short;
+    places_most = short;
   }
 
   module _ {reciprocal : ℕ} (pre : ProductAsked p reciprocal a b a) where

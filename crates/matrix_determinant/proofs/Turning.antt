@@ -12,14 +12,14 @@ use Rattle.theory_algebra.specs.Prime.{Prime}
 use Rattle.theory_algebra.specs.Residue.{Zp}
 use Rattle.theory_algebra.specs.Ring.{CommRing}
 use Rattle.theory_algebra.proofs.Cases.{case-le}
-use Rattle.theory_rings.specs.PrimeField.{zp-field}
+use Rattle.theory_rings.specs.PrimeField.{zp_field}
 use Rattle.theory_algebra.proofs.Ring.{one-mul, neg-mul}
 use Rattle.theory_rings.specs.Series.{series}
 use Rattle.theory_lattice.specs.Row.{Row}
 use Rattle.theory_lattice.proofs.Coefficients.{below_more}
 use Rattle.theory_lists.specs.Part.{part}
 use Rattle.theory_lists.proofs.Skip.{skip-fits}
-use Rattle.theory_determinant.specs.Determinant.{without, sign_at, with-entry}
+use Rattle.theory_determinant.specs.Determinant.{without, sign_at, with_entry}
 use Rattle.theory_determinant.proofs.Rows.{zero_row}
 use Rattle.theory_determinant.proofs.Sign.{sign-parity}
 use Rattle.theory_determinant.proofs.Stage.{stage-product, stage-turn}
@@ -45,7 +45,7 @@ smaller m w = N.mul-le-mul (N.le-suc m) (N.mul-le-mul_right w (N.sub-le m 1))
 -- the columns of the next stage stand in front of the room that they were made in
 pub next-front : {p m w wide : ℕ} {pivots : List Pivot} {r column product next' column' product' : List ℕ}
     → TakenOut p m w wide pivots r column product next' column' product' → (rest : List ℕ) → m * ((m - 1) * w) ≤ length (next' ++ rest)
-next-front taken rest = rw length-append (omega (arith, taken.parted.next-size))
+next-front taken rest = rw length-append (omega (arith, taken.parted.next_size))
 
 -- the sign of an index, by whether it is odd
 sign-is : {F : Type 0} (R : CommRing F) (j : ℕ) (x : F) → signed R (eqb (j % 2) 1) x ≡ R.mul (sign_at R j) x
@@ -70,9 +70,9 @@ module _ {p reciprocal m w wide budget : ℕ} {r column product : List ℕ}
   -- the columns of the next stage have room
   pub next_small : ((m - 1) * w ≤ 448) × (m * ((m - 1) * w) ≤ 3584)
   next_small =
-      let few : m ≤ 8 = omega (arith, asked.sizes.columns-most) in
+      let few : m ≤ 8 = omega (arith, asked.sizes.columns_most) in
       let fewer : m - 1 ≤ 7 = omega arith in
-      let line : (m - 1) * w ≤ 448 = N.mul-le-mul fewer asked.sizes.places-most in
+      let line : (m - 1) * w ≤ 448 = N.mul-le-mul fewer asked.sizes.places_most in
       (line, N.mul-le-mul few line)
 
   -- no step applies to the rows any more
@@ -85,7 +85,7 @@ module _ {p reciprocal m w wide budget : ℕ} {r column product : List ℕ}
     module _ (P : Prime p) {whole : ℕ → Zp p} (held : StageHeld p P m w wide budget whole r' column' product) {k : ℕ}
         (lowest : LowestZero (suc m) pivots k) where
       abbrev K : Field (Zp p)
-      K = zp-field p P
+      K = zp_field p P
 
       abbrev T : ℕ → Row (Zp p)
       T = held.rows.T
@@ -94,7 +94,7 @@ module _ {p reciprocal m w wide budget : ℕ} {r column product : List ℕ}
       same-values = agree P asked.columns held.rows
 
       indexed-by : (i : ℕ) → i < suc m → index_at pivots i ≡ index m (values K m w T i)
-      indexed-by i li = (reduced.pivots-are.row i li).index_is ∙ ap (index m) (same-values i li)
+      indexed-by i li = (reduced.pivots_are.row i li).index_is ∙ ap (index m) (same-values i li)
 
       row_fits : k < suc m
       unfolding index
@@ -116,19 +116,19 @@ module _ {p reciprocal m w wide budget : ℕ} {r column product : List ℕ}
       entry-asked = multiply-asked p P held.so_far entry asked.ready
           (below_more K.ring _ _ _ (omega (arith, held.size, asked.sizes.places, asked.sizes.widened))
           (stage-product K w (wide - 1) whole held.rows.stage k row_fits row-none))
-          (omega (arith, held.size, asked.sizes.wide-most))
+          (omega (arith, held.size, asked.sizes.wide_most))
 
       -- the next stage
       turned : {left : ℕ} {next' cells product' : List ℕ} → left ≡ sum m pivots → Parted m w wide k r' next' cells
           → product' ≡ signed_product p (negative m k) product (part (k * wide) wide column') → length product' ≡ length product
           → StageHeld p P (m - 1) w wide left whole next' cells product'
       turned left_is parted made same = record {
-        f = with-entry (series K.ring) k m T held.f;
+        f = with_entry (series K.ring) k m T held.f;
         rows = record {
           T = without k T;
           matrix = rw one_less (held_next held.rows.matrix (skip-fits m k) parted);
           parted = rw one_less (held-column held.rows.matrix (skip-fits m k) parted asked.columns asked.sizes.widened);
-          stage = rw (left_is, sum-now P asked.columns held.rows reduced.pivots-are)
+          stage = rw (left_is, sum-now P asked.columns held.rows reduced.pivots_are)
               (stage-turn K w (wide - 1) whole held.rows.stage k row_fits row-none (m - 1) one_less);
         };
         size = same ∙ held.size;
@@ -146,15 +146,15 @@ module _ {p reciprocal m w wide budget : ℕ} {r column product : List ℕ}
     take-asked size = record {
       columns = asked.columns;
       sizes = asked.sizes;
-      r-size = reduced-held.rows.matrix.size;
-      column-size = reduced-held.rows.parted.size;
-      next-size = size;
+      r_size = reduced-held.rows.matrix.size;
+      column_size = reduced-held.rows.parted.size;
+      next_size = size;
       row = λ k lowest. (row_fits asked.prime reduced-held lowest, entry-asked asked.prime reduced-held lowest);
     }
 
     pub left-asked : SumAsked (suc m) pivots
-    left-asked = sum-asked asked.prime asked.columns reduced-held.rows reduced.pivots-are
-        asked.sizes.columns-most asked.sizes.wide-most
+    left-asked = sum-asked asked.prime asked.columns reduced-held.rows reduced.pivots_are
+        asked.sizes.columns_most asked.sizes.wide_most
 
     -- the columns of the next stage have room in front of r
     pub front-room : m * ((m - 1) * w) ≤ length r'
@@ -166,9 +166,9 @@ module _ {p reciprocal m w wide budget : ℕ} {r column product : List ℕ}
         → front ≡ take (m * ((m - 1) * w)) (next' ++ under)
         → Staged p m w wide budget left r column product (front ++ rest) column'' product'
     staged {next' = next'} {front = front} under rest left_is taken same is = record {
-      by = λ P whole h. rw (take_at front rest (m * ((m - 1) * w)) (ap length next-is ∙ taken.parted.next-size), next-is)
+      by = λ P whole h. rw (take_at front rest (m * ((m - 1) * w)) (ap length next-is ∙ taken.parted.next_size), next-is)
           (turned P (on P whole h) taken.lowest left_is taken.parted taken.factor same);
     }
       where
         next-is : front ≡ next'
-        next-is = is ∙ take_at next' under (m * ((m - 1) * w)) taken.parted.next-size
+        next-is = is ∙ take_at next' under (m * ((m - 1) * w)) taken.parted.next_size

@@ -6,7 +6,7 @@ use native.Mathlib.Nat as N
 use native.Mathlib.Omega.{arith}
 use lib.ListN.{length}
 use Rattle.theory_algebra.specs.Prime.{Prime}
-use Rattle.theory_rings.specs.PrimeField.{zp-field}
+use Rattle.theory_rings.specs.PrimeField.{zp_field}
 use Rattle.theory_rings.specs.Series.{series}
 use Rattle.theory_determinant.specs.Determinant.{det}
 use Rattle.theory_lists.proofs.Grid.{one_line}
@@ -24,21 +24,21 @@ module _ {p reciprocal n d : ℕ} {a r : List ℕ} (asked : DeterminantAsked p r
   open checked use {bounds}
 
   -- the room that the stages take, at most
-  wide-most : n * d + 1 ≤ 505
-  wide-most =
-      let low : d ≤ 63 = omega (arith, bounds.places-most) in
-      omega (arith, N.mul-le-mul bounds.rows-most low)
+  wide_most : n * d + 1 ≤ 505
+  wide_most =
+      let low : d ≤ 63 = omega (arith, bounds.places_most) in
+      omega (arith, N.mul-le-mul bounds.rows_most low)
 
   line-most : (n - 1) * (d + 1) ≤ 448
   line-most =
-      let few : n - 1 ≤ 7 = omega (arith, bounds.rows-most) in
-      N.mul-le-mul few bounds.places-most
+      let few : n - 1 ≤ 7 = omega (arith, bounds.rows_most) in
+      N.mul-le-mul few bounds.places_most
 
   lines-most : n * ((n - 1) * (d + 1)) ≤ 3584
-  lines-most = N.mul-le-mul bounds.rows-most line-most
+  lines-most = N.mul-le-mul bounds.rows_most line-most
 
   cells-most : n * (n * d + 1) ≤ 4040
-  cells-most = N.mul-le-mul bounds.rows-most wide-most
+  cells-most = N.mul-le-mul bounds.rows_most wide_most
 
   widened : d + 1 ≤ n * d + 1
   widened = omega (arith, one_line n d bounds.rows)
@@ -50,16 +50,16 @@ module _ {p reciprocal n d : ℕ} {a r : List ℕ} (asked : DeterminantAsked p r
     places = omega arith;
     widened = widened;
     size = checked.size;
-    r-room = omega (arith, lines-most);
-    column-room = omega (arith, cells-most);
-    product-size = asked.room;
+    r_room = omega (arith, lines-most);
+    column_room = omega (arith, cells-most);
+    product_size = asked.room;
   }
 
   -- the first stage is that of the matrix in a
   module _ {columns column r' : List ℕ} (laid : Laid n (d + 1) (n * d + 1) a columns column r') where
     begins : (P : Prime p) (some : 0 < p)
         → FrontHeld p P (n - 1) (d + 1) (n * d + 1) (n * (d + 1 - 1))
-        (det (series (zp-field p P).ring) n (matrix_of (by_rows n n (d + 1)) p some a)) columns column r'
+        (det (series (zp_field p P).ring) n (matrix_of (by_rows n n (d + 1)) p some a)) columns column r'
     begins P some =
         let same : d + 1 - 1 ≡ d = omega arith in
         first-stage P bounds.rows bounds.places widened (rw same (omega arith))
@@ -71,14 +71,14 @@ module _ {p reciprocal n d : ℕ} {a r : List ℕ} (asked : DeterminantAsked p r
       prime = checked.prime;
       rows = bounds.rows;
       sizes = record {
-        columns-most = omega (arith, bounds.rows-most, bounds.rows);
+        columns_most = omega (arith, bounds.rows_most, bounds.rows);
         places = bounds.places;
-        places-most = bounds.places-most;
+        places_most = bounds.places_most;
         widened = widened;
-        wide-most = omega (arith, wide-most);
+        wide_most = omega (arith, wide_most);
       };
-      r-room = omega (arith, lines-most);
-      column-room = omega (arith, cells-most);
+      r_room = omega (arith, lines-most);
+      column_room = omega (arith, cells-most);
       whole = _;
       held = begins checked.prime (omega (arith, checked.prime.two));
     }

@@ -19,18 +19,18 @@ module _ {p reciprocal m w wide : ℕ} {pivots : List Pivot} {r column next prod
     (asked : TakeAsked p reciprocal m w wide pivots r column next product) where
   -- the cells of the rows that are left
   pub cells_fit : m * wide ≤ length column
-  cells_fit = omega (arith, asked.column-size, one-column (suc m) wide, N.mul-le-mul_right wide (N.le-suc m))
+  cells_fit = omega (arith, asked.column_size, one-column (suc m) wide, N.mul-le-mul_right wide (N.le-suc m))
 
   module _ {k : ℕ} (lowest : LowestZero (suc m) pivots k) where
     pub entry-fits : k * wide + wide ≤ length column
-    entry-fits = omega (arith, asked.column-size, one-column (suc m) wide, line-end k (suc m) wide (asked.row k lowest).0)
+    entry-fits = omega (arith, asked.column_size, one-column (suc m) wide, line-end k (suc m) wide (asked.row k lowest).0)
 
     pub left-asked : PartAsked m w wide k r next (take (m * wide) column)
     left-asked = record {
       columns = asked.columns;
-      inside = λ s ls. omega (arith, asked.r-size, line-end _ (suc m) (m * w) (skip-fits m k s ls));
-      next-size = asked.next-size;
-      column-size = length-take-le (m * wide) column cells_fit ∙ sym (one-column m wide);
+      inside = λ s ls. omega (arith, asked.r_size, line-end _ (suc m) (m * w) (skip-fits m k s ls));
+      next_size = asked.next_size;
+      column_size = length-take-le (m * wide) column cells_fit ∙ sym (one-column m wide);
       widened = asked.sizes.widened;
     }
 
@@ -42,5 +42,5 @@ module _ {p reciprocal m w wide : ℕ} {pivots : List Pivot} {r column next prod
       k = k;
       lowest = lowest;
       factor = factor;
-      parted = rw (take_at cells rest (m * wide) (parted.column-size ∙ one-column m wide)) parted;
+      parted = rw (take_at cells rest (m * wide) (parted.column_size ∙ one-column m wide)) parted;
     }

@@ -18,8 +18,8 @@ pub record RunAsked (p reciprocal n w wide : ℕ) (r column product : List ℕ) 
   pub prime : Prime p
   pub rows : 0 < n
   pub sizes : Sizes (n - 1) w wide
-  pub r-room : n * ((n - 1) * w) ≤ length r
-  pub column-room : n * wide ≤ length column
+  pub r_room : n * ((n - 1) * w) ≤ length r
+  pub column_room : n * wide ≤ length column
   pub whole : ℕ → Zp p
   pub held : FrontHeld p prime (n - 1) w wide (n * (w - 1)) whole r column product
 

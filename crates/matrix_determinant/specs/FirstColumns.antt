@@ -2,7 +2,7 @@
 use Rattle.std.specs.Prelude.{List, ℕ, suc, ◌-◌, ◌≤◌, ◌<◌}
 use Rattle.theory_algebra.specs.Prime.{Prime}
 use Rattle.theory_algebra.specs.Residue.{Zp}
-use Rattle.theory_rings.specs.PrimeField.{zp-field}
+use Rattle.theory_rings.specs.PrimeField.{zp_field}
 use Rattle.theory_lattice.specs.Row.{Row}
 use Rattle.theory_determinant.specs.Stage.{Stage}
 use Rattle.poly.specs.residues.Modulus.{Ready}
@@ -18,15 +18,15 @@ pub record RowsHeld (p : ℕ) (P : Prime p) (m w wide budget : ℕ) (whole f : �
   pub T : ℕ → Row (Zp p)
   pub matrix : Held (by_rows (suc m) m w) p r T
   pub parted : Held (by_rows (suc m) 1 wide) p column (λ s _. T s m)
-  pub stage : Stage (zp-field p P) w (wide - 1) whole budget m T f
+  pub stage : Stage (zp_field p P) w (wide - 1) whole budget m T f
 
 -- at most eight rows, 64 places a cell, and 512 a cell of the parted column, which has no fewer than the others
 pub record Sizes (m w wide : ℕ) : Type 0 where
-  pub columns-most : m < 8
+  pub columns_most : m < 8
   pub places : 0 < w
-  pub places-most : w ≤ 64
+  pub places_most : w ≤ 64
   pub widened : w ≤ wide
-  pub wide-most : wide ≤ 512
+  pub wide_most : wide ≤ 512
 
 -- such buffers, of at least one column beside the parted one
 pub record ReduceAsked (p reciprocal m w wide budget : ℕ) (r column : List ℕ) : Type 0 where
@@ -40,7 +40,7 @@ pub record ReduceAsked (p reciprocal m w wide budget : ℕ) (r column : List ℕ
 
 -- no step applies to the rows any more, whose pivots these are: whatever the buffers held of a stage, they hold of the same stage
 pub record ColumnsReduced (p m w wide budget : ℕ) (r column r' column' : List ℕ) (pivots : List Pivot) : Type 0 where
-  pub pivots-are : Pivots (suc m) m (values_of m w r') pivots
+  pub pivots_are : Pivots (suc m) m (values_of m w r') pivots
   pub none : NoPair (suc m) m (values_of m w r')
   pub by : (P : Prime p) (whole f : ℕ → Zp p) → RowsHeld p P m w wide budget whole f r column
       → RowsHeld p P m w wide budget whole f r' column'

@@ -9,9 +9,9 @@ pub record LayAsked (n w wide : ℕ) (a r column product : List ℕ) : Type 0 wh
   pub places : 0 < wide
   pub widened : w ≤ wide
   pub size : length a ≡ n * (n * w)
-  pub r-room : n * ((n - 1) * w) ≤ length r
-  pub column-room : n * wide ≤ length column
-  pub product-size : length product ≡ wide
+  pub r_room : n * ((n - 1) * w) ≤ length r
+  pub column_room : n * wide ≤ length column
+  pub product_size : length product ≡ wide
 
 -- the last column is parted from the others, no row being taken out: there is no row n. The product of no factors is 1.
 pub record Laid (n w wide : ℕ) (a r' column' product' : List ℕ) : Type 0 where

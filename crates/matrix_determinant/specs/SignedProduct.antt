@@ -20,4 +20,4 @@ signed R false x = x
 -- no term of a times b falls outside the places of a, of which there are at most 512
 pub record MultiplyAsked (p reciprocal : ℕ) (a b : List ℕ) : Type 0 where
   pub product : ProductAsked p reciprocal a b a
-  pub places-most : length a ≤ 512
+  pub places_most : length a ≤ 512

@@ -21,9 +21,9 @@ negative m k = eqb ((k + m) % 2) 1
 pub record TakeAsked (p reciprocal m w wide : ℕ) (pivots : List Pivot) (r column next product : List ℕ) : Type 0 where
   pub columns : 0 < m
   pub sizes : Sizes m w wide
-  pub r-size : length r ≡ suc m * (m * w)
-  pub column-size : length column ≡ suc m * (1 * wide)
-  pub next-size : length next ≡ m * ((m - 1) * w)
+  pub r_size : length r ≡ suc m * (m * w)
+  pub column_size : length column ≡ suc m * (1 * wide)
+  pub next_size : length next ≡ m * ((m - 1) * w)
   pub row : (k : ℕ) → LowestZero (suc m) pivots k → (k < suc m) × MultiplyAsked p reciprocal product (part (k * wide) wide column)
 
 -- the lowest zero row k is taken out: its entry in the parted column, with the sign, is a factor, `next` has all columns but the last of

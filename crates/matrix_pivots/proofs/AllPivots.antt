@@ -17,7 +17,7 @@ get_or-zero-rows (suc n) (suc i) = get_or-zero-rows n i
 
 pub all_start : (m : ℕ) (v : ℕ → ℕ) → AllPivots 0 m v (replicate 8 zero_row)
 all_start m v = record {
-  pivots-are = record { row = λ i l. absurd (omega arith) };
+  pivots_are = record { row = λ i l. absurd (omega arith) };
   rest = λ i _. get_or-zero-rows 8 i;
   size = refl;
 }
@@ -41,7 +41,7 @@ pivots-set {n} {m} {l} {v} pivots p fits is others = record {
 pub all-on : {i m : ℕ} {v : ℕ → ℕ} {pivots : List Pivot} (p : Pivot) → AllPivots i m v pivots → i < 8
     → IsPivotOf m (v i) p.index.0 p.degree.0 → AllPivots (i + 1) m v (set pivots i p)
 all-on {i} {m} {v} {pivots} p so_far fits is = record {
-  pivots-are = pivots-set pivots p (omega (arith, so_far.size)) is (λ j l ne. so_far.pivots-are.row j (omega arith));
+  pivots_are = pivots-set pivots p (omega (arith, so_far.size)) is (λ j l ne. so_far.pivots_are.row j (omega arith));
   rest = λ j l. get_or-set_other pivots i j p zero_row (omega arith) ∙ so_far.rest j (omega arith);
   size = length-set pivots i p ∙ so_far.size;
 }

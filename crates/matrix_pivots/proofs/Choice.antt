@@ -105,7 +105,7 @@ module _ (pivots : List Pivot) (n a b : ℕ) (s : Lower pivots n a) (p : Partner
     ordered = (p.found h).0;
     fits = h;
     meets = (p.found h).1;
-    lowest-a = λ i j x. s.none i x j;
-    lowest-b = p.lowest;
+    lowest_a = λ i j x. s.none i x j;
+    lowest_b = p.lowest;
     turned = t;
   }

@@ -6,7 +6,7 @@ use Prim.Native.Nat.{ℕ, ◌≤◌, ◌<◌}
 use native.Mathlib.Decide.{dec_lt}
 use native.Mathlib.Omega.{arith}
 use Rattle.theory_reduction.specs.Pivot.{index, height, Clash}
-use Rattle.theory_reduction.specs.Pair.{Pair, ordered-by, target}
+use Rattle.theory_reduction.specs.Pair.{Pair, ordered_by, target}
 use Rattle.theory_reduction.proofs.Index.{index-most}
 use Rattle.matrix_pivots.specs.Columns.{Meets}
 use Rattle.matrix_pivots.specs.Pivot.{index_at, degree_at, Pivots}
@@ -35,23 +35,23 @@ module _ (n m : ℕ) (v : ℕ → ℕ) (pivots : List Pivot) (p : Pivots n m v p
         ordered = o;
         fits = f;
         clash = clash x.a x.b (omega arith) f x.meets;
-        lowest-a = λ i j h g q c. x.lowest-a i j h g q (meets i j (omega arith) q c);
-        lowest-b = λ j h g c. x.lowest-b j h g (meets x.a j (omega arith) (omega arith) c);
+        lowest_a = λ i j h g q c. x.lowest_a i j h g q (meets i j (omega arith) q c);
+        lowest_b = λ j h g c. x.lowest_b j h g (meets x.a j (omega arith) (omega arith) c);
       }
 
   turned : (l k : ℕ) (x : Chosen n pivots l k) → target m v x.a x.b ≡ (l, k)
-  unfolding target ordered-by
+  unfolding target ordered_by
   turned l k x = go x.turned (dec_lt (height m (v x.b)) (height m (v x.a)))
     where
       a-is : degree_at pivots x.a ≡ height m (v x.a)
-      a-is = let o = x.ordered in let f = x.fits in (p.row x.a (omega arith)).degree-is
+      a-is = let o = x.ordered in let f = x.fits in (p.row x.a (omega arith)).degree_is
 
       b-is : degree_at pivots x.b ≡ height m (v x.b)
-      b-is = (p.row x.b x.fits).degree-is
+      b-is = (p.row x.b x.fits).degree_is
 
       go : ((degree_at pivots x.b < degree_at pivots x.a) × (l ≡ x.a) × (k ≡ x.b))
           ⊎ ((degree_at pivots x.a ≤ degree_at pivots x.b) × (l ≡ x.b) × (k ≡ x.a))
-          → (d : Dec (height m (v x.b) < height m (v x.a))) → ordered-by d x.a x.b ≡ (l, k)
+          → (d : Dec (height m (v x.b) < height m (v x.a))) → ordered_by d x.a x.b ≡ (l, k)
       go (inl (h, e, q)) (yes _) = ap₂ (λ (s t : ℕ). (s, t)) (sym e) (sym q)
       go (inl (h, e, q)) (no z) = absurd (z (omega (arith, a-is, b-is)))
       go (inr (h, e, q)) (yes z) = absurd (omega (arith, a-is, b-is))
@@ -67,7 +67,7 @@ module _ (n m : ℕ) (v : ℕ → ℕ) (pivots : List Pivot) (p : Pivots n m v p
 
 -- pivots are what the choice asks
 pub next-asked : {n m : ℕ} {v : ℕ → ℕ} {pivots : List Pivot} → n ≤ 8 → 0 < m → m ≤ 8 → Pivots n m v pivots → NextAsked n pivots
-next-asked {m = m} {v} rows columns most pivots-are = record {
+next-asked {m = m} {v} rows columns most pivots_are = record {
   rows = rows;
-  few = λ i l. omega (arith, (pivots-are.row i l).index_is, index-most m (v i) columns);
+  few = λ i l. omega (arith, (pivots_are.row i l).index_is, index-most m (v i) columns);
 }

@@ -119,13 +119,13 @@ module _ (m w t x : ℕ) (row : List ℕ) (columns : 0 < m) (low : 0 < t) (high 
   unfolding v
   pivot-found = record {
     index_is = sym (ap (index m) value-is ∙ index-some m v (omega arith) ∙ ap suc column ∙ omega arith);
-    degree-is = sym (ap (height m) value-is ∙ height-some m v (omega arith) ∙ ap suc degree ∙ omega arith);
+    degree_is = sym (ap (height m) value-is ∙ height-some m v (omega arith) ∙ ap suc degree ∙ omega arith);
   }
 
 -- a row without a coefficient
 pub pivot-none : (m w : ℕ) (row : List ℕ) → 0 < m → ((c t : ℕ) → c < m → 0 ≤ t → t < w → get_or row (c * w + t) 0 ≡ 0) → IsPivotOf m (value_of m w row) 0 0
 unfolding value_of index height
-pivot-none m w row columns zeros = record { index_is = sym (ap (index m) none); degree-is = sym (ap (height m) none) }
+pivot-none m w row columns zeros = record { index_is = sym (ap (index m) none); degree_is = sym (ap (height m) none) }
   where
     none : value_of m w row ≡ 0
     none = last-unique (w * m) _ 0 (record {

@@ -28,24 +28,24 @@ below-unique x y = flag-unique
 pub pivot-unique : {m v : ℕ} (x y : Pivot) → IsPivotOf m v x.index.0 x.degree.0 → IsPivotOf m v y.index.0 y.degree.0 → x ≡ y
 pivot-unique x y f g =
     let indices = f.index_is ∙ sym g.index_is in
-    let degrees = f.degree-is ∙ sym g.degree-is in
+    let degrees = f.degree_is ∙ sym g.degree_is in
     λ i. record { index = record { 0 = indices i }; degree = record { 0 = degrees i } }
 
 -- of `all`
 pub all-unique : {n m : ℕ} {v : ℕ → ℕ} (x y : List Pivot) → AllPivots n m v x → AllPivots n m v y → x ≡ y
 all-unique {n} x y f g = ext_get_or zero_row x y (f.size ∙ sym g.size) (λ i _. case-le n i
     (λ past. f.rest i past ∙ sym (g.rest i past))
-    (λ less. pivot-unique _ _ (f.pivots-are.row i less) (g.pivots-are.row i less)))
+    (λ less. pivot-unique _ _ (f.pivots_are.row i less) (g.pivots_are.row i less)))
 
 -- of `next_rows`: "the lowest row a" and "the lowest such later row b" are one each
 chosen-unique : {n : ℕ} {pivots : List Pivot} {l k l' k' : ℕ} → Chosen n pivots l k → Chosen n pivots l' k' → (l ≡ l') × (k ≡ k')
 chosen-unique {n} {pivots} {l} {k} {l'} {k'} c d = rows c.turned d.turned
   where
     first : {l k l' k' : ℕ} (c : Chosen n pivots l k) (d : Chosen n pivots l' k') → ¬ (c.a < d.a)
-    first c d less = d.lowest-a c.a c.b less c.ordered c.fits c.meets
+    first c d less = d.lowest_a c.a c.b less c.ordered c.fits c.meets
 
     second : {l k l' k' : ℕ} (c : Chosen n pivots l k) (d : Chosen n pivots l' k') → c.a ≡ d.a → ¬ (c.b < d.b)
-    second c d same less = d.lowest-b c.b (omega (arith, c.ordered)) less (subst (λ (a : ℕ). Meets pivots a c.b) same c.meets)
+    second c d same less = d.lowest_b c.b (omega (arith, c.ordered)) less (subst (λ (a : ℕ). Meets pivots a c.b) same c.meets)
 
     same-a : c.a ≡ d.a
     same-a = neither c.a d.a (first c d) (first d c)

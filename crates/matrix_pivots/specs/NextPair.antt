@@ -26,8 +26,8 @@ pub record Chosen (n : ℕ) (pivots : List Pivot) (l k : ℕ) : Type 0 where
   pub ordered : a < b
   pub fits : b < n
   pub meets : Meets pivots a b
-  pub lowest-a : (i j : ℕ) → i < a → i < j → j < n → ¬ (Meets pivots i j)
-  pub lowest-b : (j : ℕ) → a < j → j < b → ¬ (Meets pivots a j)
+  pub lowest_a : (i j : ℕ) → i < a → i < j → j < n → ¬ (Meets pivots i j)
+  pub lowest_b : (j : ℕ) → a < j → j < b → ¬ (Meets pivots a j)
   pub turned : ((degree_at pivots b < degree_at pivots a) × (l ≡ a) × (k ≡ b)) ⊎ ((degree_at pivots a ≤ degree_at pivots b) × (l ≡ b) × (k ≡ a))
 
 abbrev pub IsNext : ℕ → List Pivot → Next → Type 0

@@ -26,7 +26,7 @@ degrees_of m w r i = height m (values_of m w r i) - 1
 -- x and d are the pivot index and one more than the pivot degree of a row of value v
 pub record IsPivotOf (m v x d : ℕ) : Type 0 where
   pub index_is : x ≡ index m v
-  pub degree-is : d ≡ height m v
+  pub degree_is : d ≡ height m v
 
 -- a row, and a degree to look at
 pub record Line (m w t : ℕ) (row : List ℕ) : Type 0 where
@@ -72,7 +72,7 @@ pub record Pivots (n m : ℕ) (v : ℕ → ℕ) (pivots : List Pivot) : Type 0 w
 
 -- the pivots of n rows and of no other: from n on stand those of zero rows
 pub record AllPivots (n m : ℕ) (v : ℕ → ℕ) (pivots : List Pivot) : Type 0 where
-  pub pivots-are : Pivots n m v pivots
+  pub pivots_are : Pivots n m v pivots
   pub rest : (i : ℕ) → n ≤ i → get_or pivots i zero_row ≡ zero_row
   pub size : length pivots ≡ 8
 

@@ -3,7 +3,7 @@
 use mathlib.Core.Path.{◌≡◌, subst}
 use mathlib.Core.List.{List}
 use Prim.Native.Nat.{ℕ}
-use Rattle.theory_rings.specs.PrimeField.{zp-field}
+use Rattle.theory_rings.specs.PrimeField.{zp_field}
 use Rattle.theory_popov.proofs.SecondEnding.{second-unique}
 use Rattle.matrix_promises.specs.Holding.{Holding}
 use Rattle.matrix_promises.proofs.Unique.{holding-unique, popov-form-unique}
@@ -27,7 +27,7 @@ module _ (p reciprocal n m w : ℕ) (r u v r₁ u₁ v₁ r₂ u₂ v₂ : List 
   clear-unique pivots asked k count count' x y =
       let f = x.by asked.prime _ _ _ asked.standing in
       let g = y.by asked.prime _ _ _ asked.standing in
-      let (counts, ends) = second-unique (zp-field p asked.prime) k m w f.runs g.runs in
+      let (counts, ends) = second-unique (zp_field p asked.prime) k m w f.runs g.runs in
       let (same-r, same-u, same-v) = holding-unique (subst (Holding p n m w r₁ u₁ v₁) ends f.standing.holding) g.standing.holding in
       (counts, same-r, same-u, same-v)
 

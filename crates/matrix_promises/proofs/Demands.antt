@@ -10,7 +10,7 @@ use Rattle.theory_algebra.specs.Matrix.{Same}
 use Rattle.theory_algebra.specs.Prime.{Prime}
 use Rattle.theory_algebra.specs.Polynomial.{Below}
 use Rattle.theory_algebra.specs.Residue.{Zp}
-use Rattle.theory_rings.specs.PrimeField.{zp-field}
+use Rattle.theory_rings.specs.PrimeField.{zp_field}
 use Rattle.theory_lists.specs.Place.{Layout}
 use Rattle.theory_lattice.specs.PolynomialMatrix.{AllBounded, LeftEquivalent}
 use Rattle.theory_reduction.specs.Pivot.{values}
@@ -76,7 +76,7 @@ module _ (c : WholeCall) (order : InOrder c.p c.n c.m c.d (lengths c) (reduction
   columns = omega (arith, order.numbers.shape.columns)
 
   input-bounded : (P : Prime c.p) (some : 0 < c.p)
-      → AllBounded (zp-field c.p P).ring c.n c.m (c.d + 1) (input_of c some)
+      → AllBounded (zp_field c.p P).ring c.n c.m (c.d + 1) (input_of c some)
   input-bounded P some =
       let L : Layout c.n c.m (c.d + 1) = by_rows c.n c.m (c.d + 1) in
       held-bounded L c.p P (held-matrix_of L c.p some c.a (sized order 0) order.residues)
@@ -89,22 +89,22 @@ in_bounds K n d t u v =
     let less : d + 1 - 1 ≡ d = omega arith in
     let more : d + 1 ≡ suc d = omega arith in
     record {
-      u-degrees = λ i j li lj. subst (λ (b : ℕ). Below K.ring (t.U i j) (suc ((n - 1) * b))) less (u i j li lj);
-      v-degrees = λ i j li lj. subst (Below K.ring (t.V' i j)) more (v i j li lj);
+      u_degrees = λ i j li lj. subst (λ (b : ℕ). Below K.ring (t.U i j) (suc ((n - 1) * b))) less (u i j li lj);
+      v_degrees = λ i j li lj. subst (Below K.ring (t.V' i j)) more (v i j li lj);
     }
 
 reduced : (c : WholeCall) (x : ReductionOutcome) → Promise reduction c 0 0 x → (P : Prime c.p) (some : 0 < c.p) → ReducedFacts c P some x
 reduced c x promised P some = record {
   t = f.t;
   holding = f.holding;
-  weak-popov = facts.weak-popov;
+  weak_popov = facts.weak_popov;
   transformed = facts.transformed;
-  in_bounds = in_bounds (zp-field c.p P) c.n c.d f.t facts.u-degrees facts.v-degrees;
-  rank_is = subst (IsRank (zp-field c.p P).ring c.n c.m (input_of c some)) (sym f.rank_is) facts.rank_is;
-  count-state = facts.count-state;
-  count-rank = rw f.rank_is facts.count-rank;
-  rows_are = listed.rows_are ∙ ap (λ (t : Carried (Zp c.p)). mask_of c.n (values (zp-field c.p P) c.m (c.d + 1) t.R))
-      (runs-unique (zp-field c.p P) c.n c.m (c.d + 1) listed.runs f.runs).1;
+  in_bounds = in_bounds (zp_field c.p P) c.n c.d f.t facts.u_degrees facts.v_degrees;
+  rank_is = subst (IsRank (zp_field c.p P).ring c.n c.m (input_of c some)) (sym f.rank_is) facts.rank_is;
+  count_state = facts.count_state;
+  count_rank = rw f.rank_is facts.count_rank;
+  rows_are = listed.rows_are ∙ ap (λ (t : Carried (Zp c.p)). mask_of c.n (values (zp_field c.p P) c.m (c.d + 1) t.R))
+      (runs-unique (zp_field c.p P) c.n c.m (c.d + 1) listed.runs f.runs).1;
   independent = facts.listed;
 }
   where
@@ -117,8 +117,8 @@ reduced c x promised P some = record {
     listed : ListedBy c.p P some c.n c.m (c.d + 1) c.a x.rows
     listed = (promised.done refl).1.by P some
 
-    facts : ReductionFacts (zp-field c.p P) c.n c.m (c.d + 1) (input_of c some) x.count f.t
-    facts = reduction-facts (zp-field c.p P) c.n c.m (c.d + 1) (input_of c some) (columns c order) (omega arith)
+    facts : ReductionFacts (zp_field c.p P) c.n c.m (c.d + 1) (input_of c some) x.count f.t
+    facts = reduction-facts (zp_field c.p P) c.n c.m (c.d + 1) (input_of c some) (columns c order) (omega arith)
         (input-bounded c order P some) x.count f.t f.runs
 
 formed : (c : WholeCall) (x : PopovOutcome) → Promise popov_form c 0 0 x → (P : Prime c.p) (some : 0 < c.p) → FormedFacts c P some x
@@ -127,11 +127,11 @@ formed c x promised P some = record {
   holding = f.holding;
   form = facts.form;
   transformed = facts.transformed;
-  in_bounds = in_bounds (zp-field c.p P) c.n c.d f.t facts.u-degrees facts.v-degrees;
-  rank_is = subst (IsRank (zp-field c.p P).ring c.n c.m (input_of c some)) (sym f.rank_is) facts.rank_is;
-  rank-form = facts.rank-form ∙ sym f.rank_is;
-  first-rank = rw (f.rank_is, facts.rank-kept) facts.reduction.count-rank;
-  second-rank = rw f.rank_is facts.second-bound;
+  in_bounds = in_bounds (zp_field c.p P) c.n c.d f.t facts.u_degrees facts.v_degrees;
+  rank_is = subst (IsRank (zp_field c.p P).ring c.n c.m (input_of c some)) (sym f.rank_is) facts.rank_is;
+  rank_form = facts.rank_form ∙ sym f.rank_is;
+  first_rank = rw (f.rank_is, facts.rank_kept) facts.reduction.count_rank;
+  second_rank = rw f.rank_is facts.second_bound;
 }
   where
     order : InOrder c.p c.n c.m c.d (lengths c) (reduction_sizes c.n c.m c.d) c.a
@@ -140,8 +140,8 @@ formed c x promised P some = record {
     f : PopovBy c.p P some c.n c.m (c.d + 1) c.a x.r x.u x.v x.rank x.first x.second
     f = (promised.done refl).by P some
 
-    facts : PopovFacts (zp-field c.p P) c.n c.m (c.d + 1) (input_of c some) x.first x.second f.run.weak f.t
-    facts = popov-facts (zp-field c.p P) c.n c.m (c.d + 1) _ (columns c order) (omega arith) (input-bounded c order P some) f.run
+    facts : PopovFacts (zp_field c.p P) c.n c.m (c.d + 1) (input_of c some) x.first x.second f.run.weak f.t
+    facts = popov-facts (zp_field c.p P) c.n c.m (c.d + 1) _ (columns c order) (omega arith) (input-bounded c order P some) f.run
 
 pub demand-2 : Demand2
 demand-2 = record { reduced = reduced; formed = formed }
@@ -164,8 +164,8 @@ demand-3 p n m d a r u v b s y z one other f g P some =
     x' : PopovBy p P some n m (d + 1) b other.r other.u other.v other.rank other.first other.second
     x' = (g.done refl).by P some
 
-    iff : Same n m x.t.R x'.t.R ↔ LeftEquivalent (zp-field p P).ring n m (matrix_of L p some a) (matrix_of L p some b)
-    iff = popov-equivalent (zp-field p P) n m (d + 1) (columns (call a r u v) (in_order refl f.told)) (omega arith)
+    iff : Same n m x.t.R x'.t.R ↔ LeftEquivalent (zp_field p P).ring n m (matrix_of L p some a) (matrix_of L p some b)
+    iff = popov-equivalent (zp_field p P) n m (d + 1) (columns (call a r u v) (in_order refl f.told)) (omega arith)
         (input-bounded (call a r u v) (in_order refl f.told) P some) (input-bounded (call b s y z) (in_order refl g.told) P some) x.run x'.run
 
     back : Same n m x.t.R x'.t.R → one.r ≡ other.r

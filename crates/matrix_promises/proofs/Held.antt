@@ -11,7 +11,7 @@ use Rattle.theory_algebra.specs.Matrix.{Same, transpose}
 use Rattle.theory_algebra.specs.Prime.{Prime}
 use Rattle.theory_algebra.specs.Residue.{Zp}
 use Rattle.theory_algebra.proofs.Cases.{case-le}
-use Rattle.theory_rings.specs.PrimeField.{zp-field}
+use Rattle.theory_rings.specs.PrimeField.{zp_field}
 use Rattle.theory_rings.proofs.PrimeField.{field-zero}
 use Rattle.theory_algebra.proofs.Residue.{zp-path}
 use Rattle.theory_lattice.specs.Row.{Row}
@@ -24,7 +24,7 @@ use Rattle.theory_lists.proofs.Place.{turned}
 module _ {n m w : ℕ} (L : Layout n m w) (p : ℕ) where
   -- what stands at a place is the coefficient that has the place
   at-hit : {l : List ℕ} {M : ℕ → Row (Zp p)} → Held L p l M → (x : ℕ) (h : Hit n m w L.spot x) → get_or l x 0 ≡ (M h.row h.col h.deg).val
-  at-hit {l} held x h = sym (ap (λ (y : ℕ). get_or l y 0) h.same) ∙ held.at _ _ _ h.row_fits h.col-fits h.deg-fits
+  at-hit {l} held x h = sym (ap (λ (y : ℕ). get_or l y 0) h.same) ∙ held.at _ _ _ h.row_fits h.col_fits h.deg_fits
 
   pub held-coefficients : {l : List ℕ} {M : ℕ → Row (Zp p)} → Held L p l M → Coefficients p l
   held-coefficients {l} {M} held = record {
@@ -63,7 +63,7 @@ module _ {n m w : ℕ} (L : Layout n m w) (p : ℕ) where
   }
 
   -- the matrix has no term that has no place
-  pub held-bounded : (P : Prime p) {l : List ℕ} {M : ℕ → Row (Zp p)} → Held L p l M → AllBounded (zp-field p P).ring n m w M
+  pub held-bounded : (P : Prime p) {l : List ℕ} {M : ℕ → Row (Zp p)} → Held L p l M → AllBounded (zp_field p P).ring n m w M
   held-bounded P held i li j lj t past = zp-path _ _ (held.beyond i j t li lj past ∙ sym (field-zero p P))
 
   -- the same buffer holds the columns as rows, in the layout that is turned

@@ -5,7 +5,7 @@ use Prim.Native.Nat.{ℕ, ◌+◌, ◌*◌, ◌<◌}
 use native.Mathlib.Omega.{arith}
 use Rattle.theory_algebra.specs.Prime.{Prime}
 use Rattle.theory_algebra.specs.Residue.{Zp}
-use Rattle.theory_rings.specs.PrimeField.{zp-field}
+use Rattle.theory_rings.specs.PrimeField.{zp_field}
 use Rattle.theory_reduction.specs.Pivot.{values}
 use Rattle.theory_reduction.specs.Rank as Rank
 use Rattle.theory_reduction.specs.Step.{Carried}
@@ -38,9 +38,9 @@ module _ {p n m w : ℕ} {a : List ℕ} (P : Prime p) where
   reduction-unique {r = r} {u} {v} x y =
       let f = x.by P (positive P) in
       let g = y.by P (positive P) in
-      let (counts, ends) = runs-unique (zp-field p P) n m w f.runs g.runs in
+      let (counts, ends) = runs-unique (zp_field p P) n m w f.runs g.runs in
       let (same-r, same-u, same-v) = holding-unique (subst (Holding p n m w r u v) ends f.holding) g.holding in
-      (f.rank_is ∙ ap (λ (t : Carried (Zp p)). Rank.rank (zp-field p P) n m w t.R) ends ∙ sym g.rank_is, counts, same-r, same-u, same-v)
+      (f.rank_is ∙ ap (λ (t : Carried (Zp p)). Rank.rank (zp_field p P) n m w t.R) ends ∙ sym g.rank_is, counts, same-r, same-u, same-v)
 
   -- R alone
   pub alone-unique : {rank count rank' count' : ℕ} {r r' : List ℕ} → IsReducedAlone p n m w a r rank count → IsReducedAlone p n m w a r' rank' count'
@@ -48,8 +48,8 @@ module _ {p n m w : ℕ} {a : List ℕ} (P : Prime p) where
   alone-unique {r = r} x y =
       let f = x.by P (positive P) in
       let g = y.by P (positive P) in
-      let (counts, ends) = runs-unique (zp-field p P) n m w f.runs g.runs in (
-        f.rank_is ∙ ap (λ (t : Carried (Zp p)). Rank.rank (zp-field p P) n m w t.R) ends ∙ sym g.rank_is,
+      let (counts, ends) = runs-unique (zp_field p P) n m w f.runs g.runs in (
+        f.rank_is ∙ ap (λ (t : Carried (Zp p)). Rank.rank (zp_field p P) n m w t.R) ends ∙ sym g.rank_is,
         counts,
         held-unique (by_rows n m w) p (subst (λ (t : Carried (Zp p)). Held (by_rows n m w) p r t.R) ends f.held) g.held,
       )
@@ -59,8 +59,8 @@ module _ {p n m w : ℕ} {a : List ℕ} (P : Prime p) where
   row-list-unique x y =
       let f = x.by P (positive P) in
       let g = y.by P (positive P) in
-      let (_, ends) = runs-unique (zp-field p P) n m w f.runs g.runs in
-      f.rows_are ∙ ap (λ (t : Carried (Zp p)). mask_of n (values (zp-field p P) m w t.R)) ends ∙ sym g.rows_are
+      let (_, ends) = runs-unique (zp_field p P) n m w f.runs g.runs in
+      f.rows_are ∙ ap (λ (t : Carried (Zp p)). mask_of n (values (zp_field p P) m w t.R)) ends ∙ sym g.rows_are
 
   -- the single step
   pub stepped-unique : {count count' : ℕ} {r r' : List ℕ} → SteppedOnce p n m w count a r → SteppedOnce p n m w count' a r'
@@ -68,7 +68,7 @@ module _ {p n m w : ℕ} {a : List ℕ} (P : Prime p) where
   stepped-unique {r = r} x y =
       let f = x.by P (positive P) in
       let g = y.by P (positive P) in
-      let (counts, ends) = once-determined (zp-field p P) n m w f.stepped g.stepped in
+      let (counts, ends) = once-determined (zp_field p P) n m w f.stepped g.stepped in
       (counts, held-unique (by_rows n m w) p (subst (λ (t : Carried (Zp p)). Held (by_rows n m w) p r t.R) ends f.held) g.held)
 
   -- the Popov form
@@ -78,9 +78,9 @@ module _ {p n m w : ℕ} {a : List ℕ} (P : Prime p) where
   popov-form-unique {r = r} {u} {v} x y =
       let f = x.by P (positive P) in
       let g = y.by P (positive P) in
-      let (firsts, seconds, ends) = popov-unique (zp-field p P) n m w _ f.run g.run in
+      let (firsts, seconds, ends) = popov-unique (zp_field p P) n m w _ f.run g.run in
       let (same-r, same-u, same-v) = holding-unique (subst (Holding p n m w r u v) ends f.holding) g.holding in
-      let ranks = f.rank_is ∙ ap (λ (t : Carried (Zp p)). Rank.rank (zp-field p P) n m w t.R) ends ∙ sym g.rank_is in
+      let ranks = f.rank_is ∙ ap (λ (t : Carried (Zp p)). Rank.rank (zp_field p P) n m w t.R) ends ∙ sym g.rank_is in
       (ranks, firsts, seconds, same-r, same-u, same-v)
 
 -- the determinant, in every place

@@ -2,7 +2,7 @@
 -- `demand-3`).
 use Rattle.std.specs.Prelude.{◌≡◌, ◌↔◌, List, ℕ, ◌+◌, ◌<◌}
 use Rattle.theory_algebra.specs.Prime.{Prime}
-use Rattle.theory_rings.specs.PrimeField.{zp-field}
+use Rattle.theory_rings.specs.PrimeField.{zp_field}
 use Rattle.theory_lattice.specs.PolynomialMatrix.{LeftEquivalent}
 use Rattle.matrix_promises.specs.Answering.{Told}
 use Rattle.matrix_promises.specs.Layout.{by_rows}
@@ -35,4 +35,4 @@ Demand3 = (p n m d : ℕ) (a r u v b s y z : List ℕ) (one other : PopovOutcome
     → Promise popov_form (record { p = p; n = n; m = m; d = d; a = a; r = r; u = u; v = v }) 0 0 one
     → Promise popov_form (record { p = p; n = n; m = m; d = d; a = b; r = s; u = y; v = z }) 0 0 other
     → (P : Prime p) (some : 0 < p)
-    → let M = matrix_of (by_rows n m (d + 1)) p some in (one.r ≡ other.r) ↔ LeftEquivalent (zp-field p P).ring n m (M a) (M b)
+    → let M = matrix_of (by_rows n m (d + 1)) p some in (one.r ≡ other.r) ↔ LeftEquivalent (zp_field p P).ring n m (M a) (M b)

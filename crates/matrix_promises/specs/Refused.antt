@@ -8,9 +8,9 @@ use Rattle.matrix_promises.specs.Answering.{Rule}
 -- "rows n, columns m: 1 to 8 each"
 pub record InShape (n m : ℕ) : Type 0 where
   pub rows : 1 ≤ n
-  pub rows-most : n ≤ 8
+  pub rows_most : n ≤ 8
   pub columns : 1 ≤ m
-  pub columns-most : m ≤ 8
+  pub columns_most : m ≤ 8
 
 -- "degree limit d: 0 to 63"
 abbrev pub InDegree : ℕ → Type 0

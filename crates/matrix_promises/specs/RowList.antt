@@ -2,7 +2,7 @@
 use Rattle.std.specs.Prelude.{◌≡◌, List, ℕ, ◌*◌, ◌^◌, ◌<◌}
 use Rattle.theory_algebra.specs.Prime.{Prime}
 use Rattle.theory_algebra.specs.Residue.{Zp}
-use Rattle.theory_rings.specs.PrimeField.{zp-field}
+use Rattle.theory_rings.specs.PrimeField.{zp_field}
 use Rattle.theory_lists.specs.Total.{total}
 use Rattle.theory_reduction.specs.Pivot.{values}
 use Rattle.theory_reduction.specs.Rank.{sign}
@@ -19,8 +19,8 @@ mask_of n z = total n (λ i. sign (z i) * 2 ^ i)
 pub record ListedBy (p : ℕ) (P : Prime p) (some : 0 < p) (n m w : ℕ) (a : List ℕ) (rows : ℕ) : Type 0 where
   pub count : ℕ
   pub t : Carried (Zp p)
-  pub runs : Runs (zp-field p P) n m w count (begin (zp-field p P).ring (matrix_of (by_rows n m w) p some a)) t
-  pub rows_are : rows ≡ mask_of n (values (zp-field p P) m w t.R)
+  pub runs : Runs (zp_field p P) n m w count (begin (zp_field p P).ring (matrix_of (by_rows n m w) p some a)) t
+  pub rows_are : rows ≡ mask_of n (values (zp_field p P) m w t.R)
 
 -- whatever proof of primality is in hand
 pub record IsRowList (p n m w : ℕ) (a : List ℕ) (rows : ℕ) : Type 0 where

@@ -4,11 +4,11 @@ use mathlib.Core.List.{List}
 use Prim.Native.Nat.{ℕ}
 use lib.ListN.{get_or}
 use Rattle.theory_algebra.specs.Residue.{Zp}
-use Rattle.theory_rings.specs.PrimeField.{zp-field}
+use Rattle.theory_rings.specs.PrimeField.{zp_field}
 use Rattle.theory_reduction.specs.Pair.{NoPair}
 use Rattle.theory_reduction.specs.Process.{none, one}
 use Rattle.theory_reduction.specs.Rank.{chosen}
-use Rattle.theory_reduction.specs.Run.{advance-pair}
+use Rattle.theory_reduction.specs.Run.{advance_pair}
 use Rattle.theory_reduction.specs.Step.{Carried, begin}
 use Rattle.matrix_promises.specs.Held.{Held, matrix_of}
 use Rattle.matrix_promises.specs.Layout.{by_rows}
@@ -50,7 +50,7 @@ module _ {p reciprocal n m w : ℕ} {a : List ℕ} (input : Checked p reciprocal
   pub stepped-none : NoPair n m (values_of m w a) → SteppedOnce p n m w 0 a a
   stepped-none stuck = record {
     by = λ P some.
-        let t = begin (zp-field p P).ring (matrix_of (by_rows n m w) p some a) in
+        let t = begin (zp_field p P).ring (matrix_of (by_rows n m w) p some a) in
         record { t = t; stepped = none (at-end P columns t (first input some) stuck); held = first input some };
   }
 
@@ -60,12 +60,12 @@ module _ {p reciprocal n m w : ℕ} {a : List ℕ} (input : Checked p reciprocal
       → SteppedOnce p n m w 1 a r
   stepped-pair {l} {k} {r = r} all next lowered = record {
     by = λ P some.
-        let t = begin (zp-field p P).ring (matrix_of (by_rows n m w) p some a) in
+        let t = begin (zp_field p P).ring (matrix_of (by_rows n m w) p some a) in
         let rows = rows-held P columns t (first input some) next in
         record {
-          t = advance-pair (zp-field p P) n m w t (pair_held P columns t (first input some) next);
+          t = advance_pair (zp_field p P) n m w t (pair_held P columns t (first input some) next);
           stepped = one (pair_held P columns t (first input some) next);
           held = subst (λ (s : Carried (Zp p)). Held (by_rows n m w) p r s.R) (sym (applied P columns t (first input some) next))
-              (step-held p P n m w columns (first input some) all.pivots-are l k rows lowered);
+              (step-held p P n m w columns (first input some) all.pivots_are l k rows lowered);
         };
   }

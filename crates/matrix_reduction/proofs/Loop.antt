@@ -9,7 +9,7 @@ use lib.ListN.{length, get_or, set, length-set}
 use Rattle.theory_algebra.specs.Field.{Field}
 use Rattle.theory_algebra.specs.Prime.{Prime}
 use Rattle.theory_algebra.specs.Residue.{Zp}
-use Rattle.theory_rings.specs.PrimeField.{zp-field}
+use Rattle.theory_rings.specs.PrimeField.{zp_field}
 use Rattle.theory_lattice.specs.Row.{Row}
 use Rattle.theory_lists.specs.Total.{total}
 use Rattle.theory_lists.proofs.Total.{total-same}
@@ -17,7 +17,7 @@ use Rattle.theory_reduction.specs.Pivot.{values, index}
 use Rattle.theory_reduction.specs.Pair.{Pair, NoPair, target, StepRows}
 use Rattle.theory_reduction.specs.Step.{Carried, begin, advance}
 use Rattle.theory_reduction.specs.Process.{halt, more}
-use Rattle.theory_reduction.specs.Run.{advance-pair, Runs}
+use Rattle.theory_reduction.specs.Run.{advance_pair, Runs}
 use Rattle.theory_reduction.specs.Rank.{sign, chosen, rank}
 use Rattle.theory_reduction.proofs.Pair.{pair-rows, no-pair-same, pair_same}
 use Rattle.matrix_promises.specs.Held.{Held, matrix_of}
@@ -41,7 +41,7 @@ use Rattle.matrix_steps.proofs.RowsOf as RowsOf
 module _ {p : ℕ} (P : Prime p) {n m w : ℕ} (columns : 0 < m) (t : Carried (Zp p)) {r : List ℕ}
     (held : Held (by_rows n m w) p r t.R) where
   abbrev K : Field (Zp p)
-  K = zp-field p P
+  K = zp_field p P
 
   agree : (i : ℕ) → i < n → values_of m w r i ≡ values K m w t.R i
   agree i li = sym (value-held p P n m w held columns i li)
@@ -59,8 +59,8 @@ module _ {p : ℕ} (P : Prime p) {n m w : ℕ} (columns : 0 < m) (t : Carried (Z
     pub rows-held : StepRows n m (values K m w t.R) l k
     rows-held = pair-rows the-pair.0 the-pair.1
 
-    pub applied : advance-pair K n m w t pair_held ≡ advance K m w l k t
-    unfolding advance-pair pair_held
+    pub applied : advance_pair K n m w t pair_held ≡ advance K m w l k t
+    unfolding advance_pair pair_held
     applied = ap (λ (x : ℕ × ℕ). advance K m w x.0 x.1 t) the-pair.1
 
 -- after `count` steps on the matrix in a: r holds the matrix of a state t, the steps that lead on from t lead on from the beginning,
@@ -69,8 +69,8 @@ pub record Onward (p : ℕ) (P : Prime p) (some : 0 < p) (n m w : ℕ) (a r : Li
     (Also : Carried (Zp p) → Type 0) : Type 0 where
   pub t : Carried (Zp p)
   pub held : Held (by_rows n m w) p r t.R
-  pub onward : (c : ℕ) (s : Carried (Zp p)) → Runs (zp-field p P) n m w c t s
-      → Runs (zp-field p P) n m w (count + c) (begin (zp-field p P).ring (matrix_of (by_rows n m w) p some a)) s
+  pub onward : (c : ℕ) (s : Carried (Zp p)) → Runs (zp_field p P) n m w c t s
+      → Runs (zp_field p P) n m w (count + c) (begin (zp_field p P).ring (matrix_of (by_rows n m w) p some a)) s
   pub also : Also t
 
 -- what else is kept, whatever proof of primality is in hand
@@ -104,14 +104,14 @@ module _ {p reciprocal n m w : ℕ} {a : List ℕ} (input : Checked p reciprocal
   first some = held-matrix_of (by_rows n m w) p some a input.size input.residues
 
   pub going_start : {Also : Kept p} {pivots : List Pivot}
-      → ((P : Prime p) (some : 0 < p) → Also P some (begin (zp-field p P).ring (A some)))
+      → ((P : Prime p) (some : 0 < p) → Also P some (begin (zp_field p P).ring (A some)))
       → AllPivots n m (values_of m w a) pivots → Going p n m w Also a a pivots 0
   going_start also all = record {
     r-same = refl;
     room = all.size;
-    found = all.pivots-are;
+    found = all.pivots_are;
     at = λ P some. record {
-      t = begin (zp-field p P).ring (A some);
+      t = begin (zp_field p P).ring (A some);
       held = first some;
       onward = λ c s x. rw N.zero-add x;
       also = also P some;
@@ -128,17 +128,17 @@ module _ {p reciprocal n m w : ℕ} {a : List ℕ} (input : Checked p reciprocal
     count_fits = omega (arith, inv.budget, values-total m w a n, matrix-few bounds, ap (λ (x : ℕ). n * x) (N.mul_comm w m))
 
     pub next-asked : NextAsked n pivots
-    next-asked = Next.next-asked bounds.rows-most bounds.columns bounds.columns-most inv.found
+    next-asked = Next.next-asked bounds.rows_most bounds.columns bounds.columns_most inv.found
 
     -- where no step applies, the reduction is made, and the pivots tell the rank
     module _ (P : Prime p) (some : 0 < p) where
       abbrev t : Carried (Zp p)
       t = (inv.at P some).t
 
-      pub going-last : NoPair n m (values_of m w r) → Runs (zp-field p P) n m w count (begin (zp-field p P).ring (A some)) t
+      pub going-last : NoPair n m (values_of m w r) → Runs (zp_field p P) n m w count (begin (zp_field p P).ring (A some)) t
       going-last none = rw N.add-zero at ((inv.at P some).onward 0 t (halt (at-end P bounds.columns t (inv.at P some).held none)))
 
-      pub rank_is : chosen n (index_at pivots) ≡ rank (zp-field p P) n m w t.R
+      pub rank_is : chosen n (index_at pivots) ≡ rank (zp_field p P) n m w t.R
       rank_is = total-same n _ _ (λ i l. ap sign (inv.found.row i l).index_is ∙ sign-index m (values_of m w r i)
           ∙ ap sign (agree P bounds.columns t (inv.at P some).held i l))
 
@@ -155,7 +155,7 @@ module _ {p reciprocal n m w : ℕ} {a : List ℕ} (input : Checked p reciprocal
 
       -- both rows have their place among eight
       pub rows_fit : (l < 8) × (k < 8)
-      rows_fit = (omega (arith, reducing.l-fits, bounds.rows-most), omega (arith, reducing.k-fits, bounds.rows-most))
+      rows_fit = (omega (arith, reducing.l_fits, bounds.rows_most), omega (arith, reducing.k_fits, bounds.rows_most))
 
       pub lower-asked : LowerAsked p reciprocal m w l k high low r
       lower-asked = RowsOf.lower-asked n m w bounds.columns r size inv.found ready prime
@@ -170,19 +170,19 @@ module _ {p reciprocal n m w : ℕ} {a : List ℕ} (input : Checked p reciprocal
             (rows-held prime bounds.columns here.t here.held next) lowered
 
         pub going_on : {Also' : Kept p} → ((P : Prime p) (some : 0 < p) → let t = (inv.at P some).t in
-            StepRows n m (values (zp-field p P) m w t.R) l k → Also' P some (advance (zp-field p P) m w l k t))
+            StepRows n m (values (zp_field p P) m w t.R) l k → Also' P some (advance (zp_field p P) m w l k t))
             → Going p n m w Also' a r' (set pivots l x.pivot) (count + 1)
         going_on also = record {
-          r-same = lowered.r-move.size ∙ inv.r-same;
+          r-same = lowered.r_move.size ∙ inv.r-same;
           room = length-set pivots l x.pivot ∙ inv.room;
-          found = RowsOf.pivots-after size reducing.l-fits lowered inv.found (omega (arith, inv.room, rows_fit));
+          found = RowsOf.pivots-after size reducing.l_fits lowered inv.found (omega (arith, inv.room, rows_fit));
           at = λ P some.
               let here = inv.at P some in
               let rows = rows-held P bounds.columns here.t here.held next in
               record {
-                t = advance (zp-field p P) m w l k here.t;
+                t = advance (zp_field p P) m w l k here.t;
                 held = step-held p P n m w bounds.columns here.held inv.found l k rows lowered;
-                onward = λ c s x. subst (λ (y : ℕ). Runs (zp-field p P) n m w y (begin (zp-field p P).ring (A some)) s) (shift c)
+                onward = λ c s x. subst (λ (y : ℕ). Runs (zp_field p P) n m w y (begin (zp_field p P).ring (A some)) s) (shift c)
                     (here.onward (suc c) s (more (pair_held P bounds.columns here.t here.held next)
                     (rw (applied P bounds.columns here.t here.held next) x)));
                 also = also P some rows;

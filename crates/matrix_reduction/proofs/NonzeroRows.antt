@@ -53,21 +53,21 @@ pub record Listing (n : ℕ) (z : ℕ → ℕ) (rows bit i : ℕ) : Type 0 where
   pub reached : i ≤ n
   pub rows_are : rows ≡ mask_of i z
   pub bit_is : bit ≡ 2 ^ i
-  pub rows-most : rows < bit
+  pub rows_most : rows < bit
 
 pub listing_start : (n : ℕ) (z : ℕ → ℕ) → Listing n z 0 1 0
 unfolding total
-listing_start n z = record { reached = omega arith; rows_are = refl; bit_is = refl; rows-most = omega arith }
+listing_start n z = record { reached = omega arith; rows_are = refl; bit_is = refl; rows_most = omega arith }
 
 module _ {n m w : ℕ} {r : List ℕ} (asked : ListAsked n m w r) {rows bit i : ℕ} (at : Listing n (values_of m w r) rows bit i)
     (more : i < n) where
-  open asked.bounds use {rows-most, columns, places}
+  open asked.bounds use {rows_most, columns, places}
 
   pub row_fits : (i * (m * w) + m * w ≤ length r) × (length r ≤ 4096)
   row_fits = (omega (arith, asked.size, line-end i n (m * w) more), omega (arith, asked.size, matrix-few asked.bounds))
 
   pub bit-few : bit < 256
-  bit-few = let few : i < 8 = omega (arith, rows-most) in omega (arith, at.bit_is, pow-lt few)
+  bit-few = let few : i < 8 = omega (arith, rows_most) in omega (arith, at.bit_is, pow-lt few)
 
   -- row i comes to the list, or not
   module _ {used x : ℕ} (used-is : used ≡ used_places (take (i * (m * w) + m * w - i * (m * w)) (drop (i * (m * w)) r)))
@@ -90,7 +90,7 @@ module _ {n m w : ℕ} {r : List ℕ} (asked : ListAsked n m w r) {rows bit i : 
           rows_are = rw next
               (ap₂ ◌+◌ at.rows_are (x-is ∙ ap₂ ◌*◌ sign-is at.bit_is) ∙ sym (total-suc i (λ j. sign (values_of m w r j) * 2 ^ j)));
           bit_is = rw next (omega (arith, at.bit_is, N.pow-succ' 2 i));
-          rows-most = omega (arith, at.rows-most, entry-few);
+          rows_most = omega (arith, at.rows_most, entry-few);
         }
 
 pub listing-end : {n rows bit i : ℕ} {z : ℕ → ℕ} → Listing n z rows bit i → n ≤ i → rows ≡ mask_of n z

@@ -11,7 +11,7 @@ use lib.Seq.{get_or-set_same, get_or-set_other}
 use Rattle.theory_algebra.specs.Field.{Field}
 use Rattle.theory_algebra.specs.Prime.{Prime}
 use Rattle.theory_algebra.specs.Residue.{Zp}
-use Rattle.theory_rings.specs.PrimeField.{zp-field}
+use Rattle.theory_rings.specs.PrimeField.{zp_field}
 use Rattle.theory_lattice.specs.Row.{Row}
 use Rattle.theory_lattice.specs.PolynomialMatrix.{AllBounded}
 use Rattle.theory_lists.specs.Place.{spot}
@@ -21,7 +21,7 @@ use Rattle.theory_reduction.specs.Pivot.{value, values, height}
 use Rattle.theory_reduction.specs.Pair.{NoPair, StepRows}
 use Rattle.theory_reduction.specs.Rank.{chosen}
 use Rattle.theory_reduction.specs.Step.{Carried, advance}
-use Rattle.theory_reduction.specs.Narrow.{pivot-degree, spent-since, Narrow}
+use Rattle.theory_reduction.specs.Narrow.{pivot_degree, spent_since, Narrow}
 use Rattle.theory_reduction.proofs.Degrees.{narrow_start}
 use Rattle.matrix_promises.specs.Held.{Held, matrix_of}
 use Rattle.matrix_promises.specs.Holding.{Holding}
@@ -44,7 +44,7 @@ use Rattle.matrix_steps.proofs.LinesAsked as LinesAsked
 use Rattle.matrix_steps.proofs.Value.{value-held}
 use Rattle.matrix_steps.proofs.Moving.{height-is, move-narrow, move-holding}
 use Rattle.matrix_steps.proofs.RowsOf.{no-higher}
-use Rattle.matrix_steps.proofs.Short.{u-short, v-short, spent_fits}
+use Rattle.matrix_steps.proofs.Short.{u_short, v_short, spent_fits}
 use Rattle.matrix_reduction.specs.Asked.{StartAsked}
 use Rattle.matrix_reduction.specs.Advanced.{AdvanceAsked, Advanced}
 use Rattle.matrix_reduction.proofs.Loop.{Onward, Going, positive, first, going_start, size, going-last, rank_is}
@@ -54,7 +54,7 @@ use Rattle.matrix_reduction.proofs.Loop.{reducing, rows_fit, lower-asked, falls,
 pub record Transforms (p n m w : ℕ) (a u v : List ℕ) (P : Prime p) (some : 0 < p) (t : Carried (Zp p)) : Type 0 where
   pub U : Held (by_rows n n (n * w)) p u t.U
   pub V' : Held (by_rows n n w) p v t.V'
-  pub narrow : Narrow (zp-field p P) n m w (matrix_of (by_rows n m w) p some a) t
+  pub narrow : Narrow (zp_field p P) n m w (matrix_of (by_rows n m w) p some a) t
 
 -- what the step on U and V asks, once that on the matrix is made
 pub follow-asked : {p reciprocal n m w l k reach : ℕ} {high low : Pivot} {r u v r' : List ℕ} {x : Lowered}
@@ -69,7 +69,7 @@ module _ {p reciprocal n m w : ℕ} {a : List ℕ} (input : Checked p reciprocal
   open input.bounds use {columns, places}
 
   abbrev K : Field (Zp p)
-  K = zp-field p P
+  K = zp_field p P
 
   abbrev A : ℕ → Row (Zp p)
   A = matrix_of (by_rows n m w) p some a
@@ -98,20 +98,20 @@ module _ {p reciprocal n m w : ℕ} {a : List ℕ} (input : Checked p reciprocal
         }
 
     column-short : (l : ℕ) → l < n → Short w (w + 1 - degree_at pivots l) n (λ i. spot n w i l) v
-    column-short = v-short p P n m w A holding at.also.narrow columns places bounded found
+    column-short = v_short p P n m w A holding at.also.narrow columns places bounded found
 
     -- `spent` is what all degrees have lost since a
     module _ (spent : ℕ) (lost : spent + total n (λ i. degree_at pivots i - 1) ≡ total n (degrees_of m w a)) where
       height-now : (i : ℕ) → i < n → degree_at pivots i ≡ height m (value K m w (R i))
       height-now = height-is p P n m w columns at.held found
 
-      before : (i : ℕ) → i < n → degrees_of m w a i ≡ pivot-degree K n m w A i
+      before : (i : ℕ) → i < n → degrees_of m w a i ≡ pivot_degree K n m w A i
       before i li = ap (λ (x : ℕ). height m x - 1) (sym (value-held p P n m w (first input some) columns i li))
 
-      now : (i : ℕ) → i < n → degree_at pivots i - 1 ≡ pivot-degree K n m w R i
+      now : (i : ℕ) → i < n → degree_at pivots i - 1 ≡ pivot_degree K n m w R i
       now i li = ap (λ (x : ℕ). x - 1) (height-now i li)
 
-      spent-is : spent ≡ spent-since K n m w A at.t
+      spent-is : spent ≡ spent_since K n m w A at.t
       spent-is = omega (arith, lost, total-same n _ _ before, total-same n _ _ now)
 
       -- U has room for a row so shifted that it is as high as row l
@@ -124,7 +124,7 @@ module _ {p reciprocal n m w : ℕ} {a : List ℕ} (input : Checked p reciprocal
       -- where row k of the result is not zero, row k of U has no term from its height and `spent` on, less what every row of a has
       row-short : (k reach least : ℕ) → k < n → 0 < degree_at pivots k → ((i : ℕ) → i < n → least ≤ degrees_of m w a i)
           → reach + least ≡ degree_at pivots k + spent → Short (n * w) reach n (spot n (n * w) k) u
-      row-short k reach least lk nonzero all reach-is = u-short p P n m w A holding at.also.narrow k reach lk (λ j lj.
+      row-short k reach least lk nonzero all reach-is = u_short p P n m w A holding at.also.narrow k reach lk (λ j lj.
           rw (← spent-is, ← now k lk, ← before j lj)
           (cut (degree_at pivots k) spent (degrees_of m w a j) reach least nonzero (all j lj) reach-is))
 
@@ -147,9 +147,9 @@ module _ {p reciprocal n m w : ℕ} {a u₀ v₀ : List ℕ} (asked : StartAsked
     u_same = refl;
     v-same = refl;
     going = going_start input (λ P some. record {
-      U = held-identity p P n (n * w) (N.mul-pos bounds.rows bounds.places) asked.u-one;
-      V' = held-identity p P n w bounds.places asked.v-one;
-      narrow = narrow_start (zp-field p P) n m w (matrix_of (by_rows n m w) p some a);
+      U = held-identity p P n (n * w) (N.mul-pos bounds.rows bounds.places) asked.u_one;
+      V' = held-identity p P n w bounds.places asked.v_one;
+      narrow = narrow_start (zp_field p P) n m w (matrix_of (by_rows n m w) p some a);
     }) all;
     lost = omega (arith, total-same n (λ i. degree_at pivots i - 1) (degrees_of m w a) degrees);
     least-is = λ i l. omega (arith, is, least-below w n pivots i l, degrees i l);
@@ -157,7 +157,7 @@ module _ {p reciprocal n m w : ℕ} {a u₀ v₀ : List ℕ} (asked : StartAsked
   }
     where
       degrees : (i : ℕ) → i < n → degree_at pivots i - 1 ≡ degrees_of m w a i
-      degrees i l = ap (λ (h : ℕ). h - 1) (all.pivots-are.row i l).degree-is
+      degrees i l = ap (λ (h : ℕ). h - 1) (all.pivots_are.row i l).degree_is
 
   module _ {r u v : List ℕ} {pivots : List Pivot} {least count spent : ℕ}
       (inv : Running p n m w a u₀ v₀ r u v pivots least count spent) where
@@ -188,9 +188,9 @@ module _ {p reciprocal n m w : ℕ} {a u₀ v₀ : List ℕ} (asked : StartAsked
       pub reach-fits : (least ≤ low.degree.0 + spent) × (low.degree.0 ≤ high.degree.0)
           × (high.degree.0 + spent ≤ n * w) × (n * w ≤ 512)
       reach-fits = (
-        omega (arith, inv.above k rows.k-fits),
+        omega (arith, inv.above k rows.k_fits),
         (lower-asked input going next).plan.order,
-        row_room input prime (positive input) (going.at prime (positive input)) going.found spent inv.lost l rows.l-fits,
+        row_room input prime (positive input) (going.at prime (positive input)) going.found spent inv.lost l rows.l_fits,
         cell-few bounds,
       )
 
@@ -201,18 +201,18 @@ module _ {p reciprocal n m w : ℕ} {a u₀ v₀ : List ℕ} (asked : StartAsked
           record {
             lower = lower;
             move = record {
-              u-size = at.also.U.size;
-              v-size = at.also.V'.size;
-              u-residues = held-coefficients (by_rows n n (n * w)) p at.also.U;
-              v-residues = held-coefficients (by_rows n n w) p at.also.V';
-              l-fits = rows.l-fits;
-              k-fits = rows.k-fits;
+              u_size = at.also.U.size;
+              v_size = at.also.V'.size;
+              u_residues = held-coefficients (by_rows n n (n * w)) p at.also.U;
+              v_residues = held-coefficients (by_rows n n w) p at.also.V';
+              l_fits = rows.l_fits;
+              k_fits = rows.k_fits;
               differ = rows.apart;
-              u-short = row-short input prime (positive input) at going.found spent inv.lost k _ least rows.k-fits
-                  lower.plan.k-pivot.leading.height inv.least-is (omega (arith, reach-fits));
-              v-short = column-short input prime (positive input) at going.found l rows.l-fits;
-              u-room = omega (arith, reach-fits);
-              v-room = omega (arith, reach-fits, lower.plan.l-pivot.leading.height-most, lower.plan.k-pivot.leading.height);
+              u_short = row-short input prime (positive input) at going.found spent inv.lost k _ least rows.k_fits
+                  lower.plan.k_pivot.leading.height inv.least-is (omega (arith, reach-fits));
+              v_short = column-short input prime (positive input) at going.found l rows.l_fits;
+              u_room = omega (arith, reach-fits);
+              v_room = omega (arith, reach-fits, lower.plan.l_pivot.leading.height_most, lower.plan.k_pivot.leading.height);
             };
           }
 
@@ -220,7 +220,7 @@ module _ {p reciprocal n m w : ℕ} {a u₀ v₀ : List ℕ} (asked : StartAsked
       module _ {r' u' v' : List ℕ} {new : Pivot} (d : Advanced p n m w l k high low r u v r' u' v' new) where
         -- the degree of row l has not grown
         pub lower : new.degree.0 ≤ high.degree.0
-        lower = no-higher (size input going) rows.l-fits d.lowered (lower-asked input going next)
+        lower = no-higher (size input going) rows.l_fits d.lowered (lower-asked input going next)
 
         pub running-falls : total n (values_of m w r') < total n (values_of m w r)
         running-falls = falls input going next d.lowered
@@ -235,20 +235,20 @@ module _ {p reciprocal n m w : ℕ} {a u₀ v₀ : List ℕ} (asked : StartAsked
         others i ne = ap (λ (x : Pivot). x.degree.0) (get_or-set_other pivots l i new zero_row ne)
 
         change : total n (λ i. degree_at pivots' i - 1) + (high.degree.0 - 1) ≡ total n (λ i. degree_at pivots i - 1) + (new.degree.0 - 1)
-        change = rw here at (total-change n l (λ i. degree_at pivots' i - 1) (λ i. degree_at pivots i - 1) rows.l-fits
+        change = rw here at (total-change n l (λ i. degree_at pivots' i - 1) (λ i. degree_at pivots i - 1) rows.l_fits
             (λ i li ne. ap (λ (h : ℕ). h - 1) (others i ne)))
 
         pub running-on : {before after : ℕ} → before ≡ high.degree.0 - 1 → after ≡ new.degree.0 - 1
             → Running p n m w a u₀ v₀ r' u' v' pivots' least (count + 1) (spent + (before - after))
         running-on before-is after_is = record {
-          u_same = d.followed.u-move.size ∙ inv.u_same;
-          v-same = d.followed.v-move.size ∙ inv.v-same;
+          u_same = d.followed.u_move.size ∙ inv.u_same;
+          v-same = d.followed.v_move.size ∙ inv.v-same;
           going = going_on input going next d.lowered
               (λ P some reducing. transforms-on input P some (going.at P some) going.found reducing d);
           lost = omega (arith, inv.lost, change, lower, before-is, after_is);
           least-is = inv.least-is;
           above = λ i li. elim (ℕ_discrete i l) [
-            | yes e ↦ rw e (omega (arith, inv.above l rows.l-fits, here, lower, before-is, after_is))
+            | yes e ↦ rw e (omega (arith, inv.above l rows.l_fits, here, lower, before-is, after_is))
             | no ne ↦ omega (arith, inv.above i li, others i ne)
           ];
         }

@@ -34,15 +34,15 @@ module _ (p reciprocal c e w top to from stride count : ℕ) (b₀ b : List ℕ)
   pub pair : CellPair p reciprocal c e w top (to + i * stride) (from + i * stride) b
   pair =
       let size = now.done.size in
-      let to-fits = pre.to-fits i li in
-      let from-fits = pre.from-fits i li in
+      let to_fits = pre.to_fits i li in
+      let from_fits = pre.from_fits i li in
       record {
         multiplier = pre.multiplier;
-        to-fits = omega arith;
-        from-fits = omega arith;
+        to_fits = omega arith;
+        from_fits = omega arith;
         apart = λ t u. pre.apart i i t u li li;
-        to-residues = λ t lt. rw (target t lt) (pre.residues.below _ (omega arith));
-        from-residues = λ t lt. rw (source t lt) (pre.residues.below _ (omega arith));
+        to_residues = λ t lt. rw (target t lt) (pre.residues.below _ (omega arith));
+        from_residues = λ t lt. rw (source t lt) (pre.residues.below _ (omega arith));
         short = record { zero = λ _ t _ lo lt. source t lt ∙ pre.short.zero i t li lo lt };
       }
 

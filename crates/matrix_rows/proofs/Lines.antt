@@ -14,8 +14,8 @@ pub row-cells : {p reciprocal c e m w top l k : ℕ} {b : List ℕ} → RowsInBu
     → CellPairs p reciprocal c e w top (l * (m * w)) (k * (m * w)) w m b
 row-cells {m = m} {w} {top} {l} {k} {b} pre = record {
   multiplier = pre.multiplier;
-  to-fits = λ i li. omega (arith, pre.l-fits, line-end i m w li);
-  from-fits = λ i li. omega (arith, pre.k-fits, line-end i m w li);
+  to_fits = λ i li. omega (arith, pre.l_fits, line-end i m w li);
+  from_fits = λ i li. omega (arith, pre.k_fits, line-end i m w li);
   distance = omega arith;
   apart = λ i j t u li lj lt lu meet. pre.differ (spot-own m w l i t k j u li lt lj lu (omega arith)).0;
   residues = pre.residues;
@@ -31,16 +31,16 @@ pub column-ends : {p reciprocal c e n w top x y : ℕ} {b : List ℕ} → Column
     → (n * w ≤ length b) × ((x * w + w ≤ n * w) × (y * w + w ≤ n * w))
 column-ends {w = w} pre =
     let (row, x-end) = cell-ends w pre.x_fits pre.x_fits in
-    (omega (arith, pre.size), (x-end, (cell-ends w pre.y-fits pre.y-fits).1))
+    (omega (arith, pre.size), (x-end, (cell-ends w pre.y_fits pre.y_fits).1))
 
 pub column-cells : {p reciprocal c e n w top x y : ℕ} {b : List ℕ} → ColumnsInBuffer p reciprocal c e n w top x y b
     → CellPairs p reciprocal c e w top (x * w) (y * w) (n * w) n b
 column-cells {n = n} {w} {top} {x} {y} {b} pre = record {
   multiplier = pre.multiplier;
-  to-fits = λ i li. omega (arith, pre.size, cell-ends w li pre.x_fits);
-  from-fits = λ i li. omega (arith, pre.size, cell-ends w li pre.y-fits);
+  to_fits = λ i li. omega (arith, pre.size, cell-ends w li pre.x_fits);
+  from_fits = λ i li. omega (arith, pre.size, cell-ends w li pre.y_fits);
   distance = omega (arith, column-ends pre);
-  apart = λ i j t u li lj lt lu meet. pre.differ (spot-own n w i x t j y u pre.x_fits lt pre.y-fits lu (omega arith)).1.0;
+  apart = λ i j t u li lj lt lu meet. pre.differ (spot-own n w i x t j y u pre.x_fits lt pre.y_fits lu (omega arith)).1.0;
   residues = pre.residues;
   short = subst (λ spot. Short w top n (spot y) b) (sym (columns-spaced n w)) pre.short;
 }

@@ -40,7 +40,7 @@ module _ (p reciprocal c e w top to from n : ℕ) (b₀ : List ℕ) (pre : CellP
   used-is = rw (add-sub_cancel_left from top) at n-is
 
   read_fits : from + top ≤ length b₀
-  read_fits = let room = pre.multiplier.room in omega (arith, pre.from-fits)
+  read_fits = let room = pre.multiplier.room in omega (arith, pre.from_fits)
 
   -- the terms in use are among those read, and have room in the cell
   few : (n ≤ top) × (e + n ≤ w)
@@ -61,13 +61,13 @@ module _ (p reciprocal c e w top to from n : ℕ) (b₀ : List ℕ) (pre : CellP
     source = y-is ∙ now.done.others _ (λ j t lj lt same. pre.apart (e + j + t) i (omega (arith, few)) (omega (arith, few)) (sym same))
 
     fits : to + w ≤ length b
-    fits = omega (arith, now.done.size, pre.to-fits)
+    fits = omega (arith, now.done.size, pre.to_fits)
 
     pub term-asked : TermAsked p reciprocal c y (e + i) (take (to + w - to) (drop to b))
     term-asked = rw (add-sub_cancel_left to w) (record {
       ready = pre.multiplier.ready;
       factor = pre.multiplier.factor;
-      term = rw source (pre.from-residues i (omega (arith, few)));
+      term = rw source (pre.from_residues i (omega (arith, few)));
       inside = omega (arith, length_part to w b fits, few);
     })
 
@@ -91,10 +91,10 @@ module _ (p reciprocal c e w top to from n : ℕ) (b₀ : List ℕ) (pre : CellP
         written = λ _ t _ lt. case-le e t
             (λ high. simp (le-leb e t high) (case-le n (t - e)
             (λ past. d.others _ (λ j u lj lu same. omega arith)
-            ∙ rw (none (t - e) past (omega arith), mul-zero, add-zero) (sym (mod-eq_of_lt (pre.to-residues t lt))))
+            ∙ rw (none (t - e) past (omega arith), mul-zero, add-zero) (sym (mod-eq_of_lt (pre.to_residues t lt))))
             (λ inside. let here : to + (e + (t - e) + 0) ≡ to + t = omega arith in
             rw here at (d.written (t - e) 0 inside (omega arith)))))
             (λ low. simp (lt-leb e t low, mul-zero, add-zero)
-            (d.others _ (λ j u lj lu same. omega arith) ∙ sym (mod-eq_of_lt (pre.to-residues t lt))));
+            (d.others _ (λ j u lj lu same. omega arith) ∙ sym (mod-eq_of_lt (pre.to_residues t lt))));
         others = λ x elsewhere. d.others x (λ j u lj lu same. elsewhere 0 (e + j + u) (omega arith) (omega (arith, few)) same);
       }

@@ -17,18 +17,18 @@ pub record Short (w top count : ℕ) (from : ℕ → ℕ → ℕ) (b : List ℕ)
 -- two cells of one buffer that have no place in common
 pub record CellPair (p reciprocal c e w top to from : ℕ) (b : List ℕ) : Type 0 where
   pub multiplier : Multiplier p reciprocal c e w top
-  pub to-fits : to + w ≤ length b
-  pub from-fits : from + w ≤ length b
+  pub to_fits : to + w ≤ length b
+  pub from_fits : from + w ≤ length b
   pub apart : (t u : ℕ) → t < w → u < w → to + t ≢ from + u
-  pub to-residues : (t : ℕ) → t < w → get_or b (to + t) 0 < p
-  pub from-residues : (t : ℕ) → t < w → get_or b (from + t) 0 < p
+  pub to_residues : (t : ℕ) → t < w → get_or b (to + t) 0 < p
+  pub from_residues : (t : ℕ) → t < w → get_or b (from + t) 0 < p
   pub short : Short w top 1 (λ _ t. from + t) b
 
 -- `count` pairs of cells of one buffer: no cell that is added to overlaps another or one that is read
 pub record CellPairs (p reciprocal c e w top to from stride count : ℕ) (b : List ℕ) : Type 0 where
   pub multiplier : Multiplier p reciprocal c e w top
-  pub to-fits : (i : ℕ) → i < count → to + i * stride + w ≤ length b
-  pub from-fits : (i : ℕ) → i < count → from + i * stride + w ≤ length b
+  pub to_fits : (i : ℕ) → i < count → to + i * stride + w ≤ length b
+  pub from_fits : (i : ℕ) → i < count → from + i * stride + w ≤ length b
   pub distance : w ≤ stride
   pub apart : (i j t u : ℕ) → i < count → j < count → t < w → u < w → spaced to stride i t ≢ spaced from stride j u
   pub residues : Coefficients p b
@@ -37,8 +37,8 @@ pub record CellPairs (p reciprocal c e w top to from stride count : ℕ) (b : Li
 -- rows l and k of m cells in one buffer
 pub record RowsInBuffer (p reciprocal c e m w top l k : ℕ) (b : List ℕ) : Type 0 where
   pub multiplier : Multiplier p reciprocal c e w top
-  pub l-fits : l * (m * w) + m * w ≤ length b
-  pub k-fits : k * (m * w) + m * w ≤ length b
+  pub l_fits : l * (m * w) + m * w ≤ length b
+  pub k_fits : k * (m * w) + m * w ≤ length b
   pub differ : l ≢ k
   pub residues : Coefficients p b
   pub short : Short w top m (spot m w k) b
@@ -48,7 +48,7 @@ pub record ColumnsInBuffer (p reciprocal c e n w top x y : ℕ) (b : List ℕ) :
   pub multiplier : Multiplier p reciprocal c e w top
   pub size : length b ≡ n * (n * w)
   pub x_fits : x < n
-  pub y-fits : y < n
+  pub y_fits : y < n
   pub differ : x ≢ y
   pub residues : Coefficients p b
   pub short : Short w top n (λ i. spot n w i y) b

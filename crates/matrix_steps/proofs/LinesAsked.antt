@@ -20,19 +20,19 @@ use Rattle.matrix_steps.specs.Asked.{LowerAsked, MoveAsked, FollowAsked}
 module _ {p reciprocal m w l k : ℕ} {high low : Pivot} {r : List ℕ} (asked : LowerAsked p reciprocal m w l k high low r)
     {e c f : ℕ} (g : Factor p m w l k high low r e c f) where
   exponent : e + low.degree.0 ≡ high.degree.0
-  exponent = omega (arith, g.e-is, asked.plan.order)
+  exponent = omega (arith, g.e_is, asked.plan.order)
 
   high-most : high.degree.0 ≤ w
-  high-most = asked.plan.l-pivot.leading.height-most
+  high-most = asked.plan.l_pivot.leading.height_most
 
   pub row-asked : RowsInBuffer p reciprocal f e m w low.degree.0 l k r
   row-asked = record {
     multiplier = record { ready = asked.plan.ready; factor = negative-below g; room = omega (arith, exponent, high-most) };
-    l-fits = asked.plan.l-pivot.leading.row;
-    k-fits = asked.plan.k-pivot.leading.row;
+    l_fits = asked.plan.l_pivot.leading.row;
+    k_fits = asked.plan.k_pivot.leading.row;
     differ = asked.differ;
     residues = asked.plan.residues;
-    short = asked.k-short;
+    short = asked.k_short;
   }
 
   -- after the subtraction row l has no coefficient from its old height on
@@ -41,14 +41,14 @@ module _ {p reciprocal m w l k : ℕ} {high low : Pivot} {r : List ℕ} (asked :
     short-after = record {
       zero = λ j t lj from to.
           let above : e ≤ t = omega (arith, exponent) in
-          let high_zero = asked.l-short.zero j t lj from to in
-          let low-zero = asked.k-short.zero j (t - e) lj (omega (arith, exponent)) (omega arith) in
+          let high_zero = asked.l_short.zero j t lj from to in
+          let low-zero = asked.k_short.zero j (t - e) lj (omega (arith, exponent)) (omega arith) in
           added.written j t lj to ∙ simp (le-leb e t above, high_zero, low-zero, mul-zero, zero-mod);
     }
 
     pub renew-asked : RowOfAsked m w l high.degree.0 r'
     renew-asked = record {
-      row = omega (arith, added.size, asked.plan.l-pivot.leading.row);
+      row = omega (arith, added.size, asked.plan.l_pivot.leading.row);
       columns = asked.columns;
       within = high-most;
       zeros = short-after.zero;
@@ -56,31 +56,31 @@ module _ {p reciprocal m w l k : ℕ} {high low : Pivot} {r : List ℕ} (asked :
 
 -- row k of U is added to row l, and column l of V to column k
 module _ {p reciprocal n w l k e c f u_top v-top : ℕ} {u v : List ℕ} (asked : FollowAsked p reciprocal n w l k e c f u_top v-top u v) where
-  open asked use {ready, c-below, f-below, move}
+  open asked use {ready, c_below, f_below, move}
 
   pub u-asked : RowsInBuffer p reciprocal f e n (n * w) u_top l k u
   u-asked = record {
-    multiplier = record { ready = ready; factor = f-below; room = move.u-room };
-    l-fits = omega (arith, move.u-size, line-end l n (n * (n * w)) move.l-fits);
-    k-fits = omega (arith, move.u-size, line-end k n (n * (n * w)) move.k-fits);
+    multiplier = record { ready = ready; factor = f_below; room = move.u_room };
+    l_fits = omega (arith, move.u_size, line-end l n (n * (n * w)) move.l_fits);
+    k_fits = omega (arith, move.u_size, line-end k n (n * (n * w)) move.k_fits);
     differ = move.differ;
-    residues = move.u-residues;
-    short = move.u-short;
+    residues = move.u_residues;
+    short = move.u_short;
   }
 
   pub v-asked : ColumnsInBuffer p reciprocal c e n w v-top k l v
   v-asked = record {
-    multiplier = record { ready = ready; factor = c-below; room = move.v-room };
-    size = move.v-size;
-    x_fits = move.k-fits;
-    y-fits = move.l-fits;
+    multiplier = record { ready = ready; factor = c_below; room = move.v_room };
+    size = move.v_size;
+    x_fits = move.k_fits;
+    y_fits = move.l_fits;
     differ = λ q. move.differ (sym q);
-    residues = move.v-residues;
-    short = move.v-short;
+    residues = move.v_residues;
+    short = move.v_short;
   }
 
 -- with the multiple that a division gives
 pub follow-asked : {p reciprocal n w l k a b d e c f u_top v-top : ℕ} {u v : List ℕ}
     → Ready p reciprocal → MoveAsked p n w l k d u_top v-top u v → Divided p a b d e c f
     → FollowAsked p reciprocal n w l k e c f u_top v-top u v
-follow-asked ready move g = record { ready = ready; c-below = g.c-below; f-below = negative-below g; move = rw g.e-is move }
+follow-asked ready move g = record { ready = ready; c_below = g.c_below; f_below = negative-below g; move = rw g.e_is move }

@@ -12,7 +12,7 @@ use Rattle.theory_algebra.specs.Residue.{Zp}
 use Rattle.theory_algebra.specs.Series.{mono}
 use Rattle.theory_algebra.specs.Matrix.{transpose, addrow}
 use Rattle.theory_algebra.proofs.Ring as Ring
-use Rattle.theory_rings.specs.PrimeField.{zp-field}
+use Rattle.theory_rings.specs.PrimeField.{zp_field}
 use Rattle.theory_rings.proofs.PrimeField.{field-mul}
 use Rattle.theory_algebra.proofs.Residue.{zp-path}
 use Rattle.theory_rings.specs.Series.{series}
@@ -29,11 +29,11 @@ use Rattle.matrix_promises.proofs.Held.{held-bounded}
 use Rattle.matrix_buffers.proofs.Added.{held-subtract, held-column}
 use Rattle.theory_reduction.specs.Pivot.{value, values, pivot, index, height}
 use Rattle.theory_reduction.specs.Pair.{StepRows}
-use Rattle.theory_reduction.specs.Step.{Carried, leading, factor, subtract, carry, reduce-row, advance}
+use Rattle.theory_reduction.specs.Step.{Carried, leading, factor, subtract, carry, reduce_row, advance}
 use Rattle.theory_reduction.proofs.Index.{index-less, height-less, height-some, height_bound, clash-first, clash-second}
 use Rattle.theory_reduction.proofs.Pivot.{value-bound, value-lead}
 use Rattle.theory_reduction.proofs.Lowering.{Lowered as Lowering, lowered, value-le}
-use Rattle.theory_reduction.proofs.Degrees.{narrow_step, u-fits, v-degrees}
+use Rattle.theory_reduction.proofs.Degrees.{narrow_step, u-fits, v_degrees}
 use Rattle.theory_reduction.specs.Narrow.{Narrow}
 use Rattle.matrix_pivots.specs.Pivot.{values_of, zero_row, index_at, degree_at, Pivots}
 use Rattle.matrix_pivots.specs.declared.pivot.Pivot.{Pivot}
@@ -50,7 +50,7 @@ quotient_is K a b c ne e =
 
 module _ (p : ℕ) (P : Prime p) where
   abbrev K : Field (Zp p)
-  K = zp-field p P
+  K = zp_field p P
 
   -- q is x^d times the quotient of two residues a and b, which has been worked out by their numbers
   module _ (a b : Zp p) (nonzero : b ≢ K.ring.𝟘) {d e c f : ℕ} (g : Divided p a.val b.val d e c f) where
@@ -58,11 +58,11 @@ module _ (p : ℕ) (P : Prime p) where
     q = mono K.ring (K.ring.mul a (K.inv b)) d
 
     c₀ : Zp p
-    c₀ = record { val = c; lt = g.c-below }
+    c₀ = record { val = c; lt = g.c_below }
 
     q-is : q ≡ mono K.ring c₀ e
     unfolding c₀
-    q-is = ap₂ (mono K.ring) (quotient_is K a b c₀ nonzero (zp-path _ _ (field-mul p P c₀ b ∙ g.c-is))) (sym g.e-is)
+    q-is = ap₂ (mono K.ring) (quotient_is K a b c₀ nonzero (zp-path _ _ (field-mul p P c₀ b ∙ g.c_is))) (sym g.e_is)
 
     -- q times row k is taken from row l of R or U, where nothing falls outside
     pub row_moved : (n m w l k : ℕ) → l < n → k < n → {s s' : List ℕ} {M : ℕ → Row (Zp p)} → Held (by_rows n m w) p s M → RowAdded p m w f e l k s s'
@@ -70,7 +70,7 @@ module _ (p : ℕ) (P : Prime p) where
     unfolding c₀
     row_moved n m w l k ll lk {s' = s'} {M = M} held added fits =
         subst (λ q. Held (by_rows n m w) p s' (subtract K.ring l k q M)) (sym q-is)
-        (held-subtract p P n m w c₀ f e l k g.f-is ll lk held added (subst (λ q. AllBounded K.ring n m w (subtract K.ring l k q M)) q-is fits))
+        (held-subtract p P n m w c₀ f e l k g.f_is ll lk held added (subst (λ q. AllBounded K.ring n m w (subtract K.ring l k q M)) q-is fits))
 
     -- and q times column l is added to column k of V
     pub column-moved : (n w l k : ℕ) → l < n → k < n → {s s' : List ℕ} {M : ℕ → Row (Zp p)} → Held (by_rows n n w) p s M → ColumnAdded p n w c e k l s s'
@@ -86,10 +86,10 @@ module _ (p : ℕ) (P : Prime p) where
     pub subtracted-holding : (n m w l k : ℕ) → l < n → k < n → {r u v r' u' v' : List ℕ} {t : Carried (Zp p)} → Holding p n m w r u v t
         → RowAdded p m w f e l k r r' → Followed p n w l k e c f u v u' v' → let t' = carry K.ring l k q t in
         AllBounded K.ring n m w t'.R → AllBounded K.ring n n (n * w) t'.U → AllBounded K.ring n n w t'.V' → Holding p n m w r' u' v' t'
-    subtracted-holding n m w l k ll lk h r-move s r-fits u-fits v-fits = record {
-      R = row_moved n m w l k ll lk h.R r-move r-fits;
-      U = row_moved n n (n * w) l k ll lk h.U s.u-move u-fits;
-      V' = column-moved n w l k ll lk h.V' s.v-move v-fits;
+    subtracted-holding n m w l k ll lk h r_move s r-fits u-fits v-fits = record {
+      R = row_moved n m w l k ll lk h.R r_move r-fits;
+      U = row_moved n n (n * w) l k ll lk h.U s.u_move u-fits;
+      V' = column-moved n w l k ll lk h.V' s.v_move v-fits;
     }
 
   module _ (n m w : ℕ) (columns : 0 < m) where
@@ -100,14 +100,14 @@ module _ (p : ℕ) (P : Prime p) where
       bounded = held-bounded (by_rows n m w) p P h
 
       pub height-is : (i : ℕ) → i < n → degree_at pivots i ≡ height m (value K m w (M i))
-      height-is i li = (found.row i li).degree-is ∙ ap (height m) (sym (value-held p P n m w h columns i li))
+      height-is i li = (found.row i li).degree_is ∙ ap (height m) (sym (value-held p P n m w h columns i li))
 
       pub column-is : (i : ℕ) → i < n → index_at pivots i - 1 ≡ (pivot m (value K m w (M i))).col
       column-is i li =
           ap (λ (x : ℕ). x - 1) ((found.row i li).index_is ∙ ap (index m) (sym (value-held p P n m w h columns i li))) ∙ index-less m (value K m w (M i))
 
-      pub degree-is : (i : ℕ) → i < n → degree_at pivots i - 1 ≡ (pivot m (value K m w (M i))).deg
-      degree-is i li = ap (λ (x : ℕ). x - 1) (height-is i li) ∙ height-less m (value K m w (M i))
+      pub degree_is : (i : ℕ) → i < n → degree_at pivots i - 1 ≡ (pivot m (value K m w (M i))).deg
+      degree_is i li = ap (λ (x : ℕ). x - 1) (height-is i li) ∙ height-less m (value K m w (M i))
 
       -- the coefficient of row k at x^e times the leading term of row i, which is not zero
       pub coefficient-is : (k i e : ℕ) → k < n → i < n → 0 < value K m w (M i) → e + (pivot m (value K m w (M i))).deg < w
@@ -128,12 +128,12 @@ module _ (p : ℕ) (P : Prime p) where
         lowering = lowered K n m w M l k bounded x
 
         k-nonzero : leading K m w (M k) ≢ K.ring.𝟘
-        k-nonzero = (value-lead K m w (M k) (bounded k x.k-fits) (clash-second x.clash)).top
+        k-nonzero = (value-lead K m w (M k) (bounded k x.k_fits) (clash-second x.clash)).top
 
         factor-is : {e c f : ℕ} → Factor p m w l k (get_or pivots l zero_row) (get_or pivots k zero_row) r e c f
             → Divided p (leading K m w (M l)).val (leading K m w (M k)).val (height m (value K m w (M l)) - height m (value K m w (M k))) e c f
-        factor-is g = rw (leading-is l x.l-fits (clash-first x.clash), leading-is k x.k-fits (clash-second x.clash))
-            (rw (← height-is l x.l-fits, ← height-is k x.k-fits) g)
+        factor-is g = rw (leading-is l x.l_fits (clash-first x.clash), leading-is k x.k_fits (clash-second x.clash))
+            (rw (← height-is l x.l_fits, ← height-is k x.k_fits) g)
 
         -- another matrix that follows, where nothing falls outside
         pub step-followed : {e c f : ℕ} → Factor p m w l k (get_or pivots l zero_row) (get_or pivots k zero_row) r e c f
@@ -141,19 +141,19 @@ module _ (p : ℕ) (P : Prime p) where
             → AllBounded K.ring n m' w' (subtract K.ring l k (factor K m w (M l) (M k)) N')
             → Held (by_rows n m' w') p s' (subtract K.ring l k (factor K m w (M l) (M k)) N')
         unfolding factor
-        step-followed g m' w' = row_moved _ _ k-nonzero (factor-is g) n m' w' l k x.l-fits x.k-fits
+        step-followed g m' w' = row_moved _ _ k-nonzero (factor-is g) n m' w' l k x.l_fits x.k_fits
 
         -- the matrix itself
         module _ {r' : List ℕ} {y : Lowered} (lowered : IsLowered p m w l k (get_or pivots l zero_row) (get_or pivots k zero_row) r r' y) where
-          pub step-held : Held (by_rows n m w) p r' (reduce-row K m w l k M)
-          step-held = step-followed lowered.factor m w h lowered.r-move lowering.bounded
+          pub step-held : Held (by_rows n m w) p r' (reduce_row K m w l k M)
+          step-held = step-followed lowered.factor m w h lowered.r_move lowering.bounded
 
           -- the sum of the values falls
           pub step_falls : total n (values_of m w r') < total n (values_of m w r)
           step_falls =
               let before = value-held p P n m w h columns in
               let after = value-held p P n m w step-held columns in
-              total-lt n l _ _ x.l-fits (omega (arith, after l x.l-fits, before l x.l-fits, lowering.lower))
+              total-lt n l _ _ x.l_fits (omega (arith, after l x.l_fits, before l x.l_fits, lowering.lower))
               (λ i li. omega (arith, after i li, before i li, value-le K n m w M l k lowering i))
 
     -- with the transforms
@@ -173,5 +173,5 @@ module _ (p : ℕ) (P : Prime p) where
       unfolding factor
       move-holding lowered followed =
           subtracted-holding _ _ (k-nonzero h.R found l k x) (factor-is h.R found l k x lowered.factor)
-          n m w l k x.l-fits x.k-fits h lowered.r-move followed move-lowers.bounded
-          (λ i li j lj. u-fits K n m w A _ ab move-narrow places i j li lj) (λ i li j lj. v-degrees K n m w A _ ab move-narrow places i j li lj)
+          n m w l k x.l_fits x.k_fits h lowered.r_move followed move-lowers.bounded
+          (λ i li j lj. u-fits K n m w A _ ab move-narrow places i j li lj) (λ i li j lj. v_degrees K n m w A _ ab move-narrow places i j li lj)

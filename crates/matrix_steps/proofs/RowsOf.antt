@@ -65,9 +65,9 @@ module _ (n m w : ℕ) (columns : 0 < m) (r : List ℕ) (size : length r ≡ n *
       unfolding v
       column-is = (found.row i li).index_is ∙ index-some m _ some
 
-      degree-is : degree_at pivots i ≡ suc (pivot m v).deg
+      degree_is : degree_at pivots i ≡ suc (pivot m v).deg
       unfolding v
-      degree-is = (found.row i li).degree-is ∙ height-some m _ some
+      degree_is = (found.row i li).degree_is ∙ height-some m _ some
 
       column_fits : (pivot m v).col < m
       column_fits = N.mod-lt _ columns
@@ -80,9 +80,9 @@ module _ (n m w : ℕ) (columns : 0 < m) (r : List ℕ) (size : length r ≡ n *
       leading-asked = record {
         row = row_fits i li;
         column = omega (arith, column-is);
-        column-most = omega (arith, column-is, column_fits);
-        height = omega (arith, degree-is);
-        height-most = omega (arith, degree-is, degree-fits);
+        column_most = omega (arith, column-is, column_fits);
+        height = omega (arith, degree_is);
+        height_most = omega (arith, degree_is, degree-fits);
       }
 
       -- its leading coefficient is not 0
@@ -90,7 +90,7 @@ module _ (n m w : ℕ) (columns : 0 < m) (r : List ℕ) (size : length r ≡ n *
       unfolding value_of v
       lead z =
           let col : index_at pivots i - 1 ≡ (pivot m v).col = omega (arith, column-is) in
-          let deg : degree_at pivots i - 1 ≡ (pivot m v).deg = omega (arith, degree-is) in
+          let deg : degree_at pivots i - 1 ≡ (pivot m v).deg = omega (arith, degree_is) in
           (last-is (w * m) (λ x. get_or (row_of m w r i) (x % m * w + x / m) 0)).top some
           (row_at i (pivot m v).col (pivot m v).deg li column_fits degree-fits ∙ sym (ap₂ (λ (x y : ℕ). get_or r (spot m w i x y) 0) col deg) ∙ z)
 
@@ -99,7 +99,7 @@ module _ (n m w : ℕ) (columns : 0 < m) (r : List ℕ) (size : length r ≡ n *
 
     -- from the height of its pivot on a row is zero
     pub pivot-short : (i : ℕ) → i < n → Short w (degree_at pivots i) m (spot m w i) r
-    pivot-short i li = subst (λ (h : ℕ). Short w h m (spot m w i) r) (sym (found.row i li).degree-is) (row-short i li)
+    pivot-short i li = subst (λ (h : ℕ). Short w h m (spot m w i) r) (sym (found.row i li).degree_is) (row-short i li)
 
     -- of two rows that a step reduces
     pub lower-asked : {p reciprocal l k : ℕ} → Ready p reciprocal → Prime p → Coefficients p r → StepRows n m (values_of m w r) l k
@@ -109,30 +109,30 @@ module _ (n m w : ℕ) (columns : 0 < m) (r : List ℕ) (size : length r ≡ n *
         ready = ready;
         prime = prime;
         residues = residues;
-        l-pivot = pivot-asked l reducing.l-fits (clash-first reducing.clash);
-        k-pivot = pivot-asked k reducing.k-fits (clash-second reducing.clash);
-        order = omega (arith, (found.row l reducing.l-fits).degree-is, (found.row k reducing.k-fits).degree-is, reducing.degrees);
+        l_pivot = pivot-asked l reducing.l_fits (clash-first reducing.clash);
+        k_pivot = pivot-asked k reducing.k_fits (clash-second reducing.clash);
+        order = omega (arith, (found.row l reducing.l_fits).degree_is, (found.row k reducing.k_fits).degree_is, reducing.degrees);
       };
       columns = columns;
       differ = reducing.apart;
-      l-short = pivot-short l reducing.l-fits;
-      k-short = pivot-short k reducing.k-fits;
+      l_short = pivot-short l reducing.l_fits;
+      k_short = pivot-short k reducing.k_fits;
     }
 
 -- a step changes row l alone, and of the pivots that of row l
 module _ {p n m w l k : ℕ} {high low : Pivot} {r r' : List ℕ} {x : Lowered} (size : length r ≡ n * (m * w)) (ll : l < n)
     (lowered : IsLowered p m w l k high low r r' x) where
   pub size-after : length r' ≡ n * (m * w)
-  size-after = lowered.r-move.size ∙ size
+  size-after = lowered.r_move.size ∙ size
 
   other_row : (i : ℕ) → i < n → i ≢ l → row_of m w r' i ≡ row_of m w r i
   other_row i li ne =
       let fits : i * (m * w) + m * w ≤ length r = omega (arith, line-end i n (m * w) li) in
-      let fits' : i * (m * w) + m * w ≤ length r' = omega (arith, lowered.r-move.size) in
+      let fits' : i * (m * w) + m * w ≤ length r' = omega (arith, lowered.r_move.size) in
       ext_get_or 0 _ _ (length_part (i * (m * w)) (m * w) r' fits' ∙ sym (length_part (i * (m * w)) (m * w) r fits)) (λ x lx.
       let inside : x < m * w = omega (arith, length_part (i * (m * w)) (m * w) r' fits') in
       get_d_part (i * (m * w)) (m * w) r' fits' x inside
-      ∙ lowered.r-move.others (i * (m * w) + x) (λ j t lj lt same. ne (apart x inside j t lj lt same))
+      ∙ lowered.r_move.others (i * (m * w) + x) (λ j t lj lt same. ne (apart x inside j t lj lt same))
       ∙ sym (get_d_part (i * (m * w)) (m * w) r fits x inside))
     where
       -- a place of row i is none of row l
@@ -147,5 +147,5 @@ module _ {p n m w l k : ℕ} {high low : Pivot} {r r' : List ℕ} {x : Lowered} 
   -- the height of row l has not grown
   pub no-higher : {reciprocal : ℕ} → LowerAsked p reciprocal m w l k high low r → x.pivot.degree.0 ≤ high.degree.0
   no-higher asked =
-      let short = short-after asked lowered.factor lowered.r-move in
-      omega (arith, lowered.renewed.degree-is, height-under n m w asked.columns r' size-after l high.degree.0 ll short)
+      let short = short-after asked lowered.factor lowered.r_move in
+      omega (arith, lowered.renewed.degree_is, height-under n m w asked.columns r' size-after l high.degree.0 ll short)

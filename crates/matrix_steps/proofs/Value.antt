@@ -7,7 +7,7 @@ use native.Mathlib.Nat as N
 use Rattle.theory_algebra.specs.Field.{Field}
 use Rattle.theory_algebra.specs.Prime.{Prime}
 use Rattle.theory_algebra.specs.Residue.{Zp}
-use Rattle.theory_rings.specs.PrimeField.{zp-field}
+use Rattle.theory_rings.specs.PrimeField.{zp_field}
 use Rattle.theory_rings.proofs.PrimeField.{field-zero}
 use Rattle.theory_algebra.proofs.Residue.{zp-path}
 use Rattle.theory_lattice.specs.Row.{Row}
@@ -25,7 +25,7 @@ use Rattle.theory_lists.proofs.Grid.{line-end, within}
 
 module _ (p : ℕ) (P : Prime p) where
   abbrev K : Field (Zp p)
-  K = zp-field p P
+  K = zp_field p P
 
   -- the last residue that is not zero is the last number that is not
   pub top-last : (n : ℕ) (f : ℕ → Zp p) (g : ℕ → ℕ) → ((x : ℕ) → x < n → g x ≡ (f x).val) → top K n f ≡ last_nonzero n g
@@ -60,5 +60,5 @@ module _ (m w : ℕ) (r : List ℕ) where
   pub values-total : (n : ℕ) → total n (values_of m w r) ≤ n * (w * m)
   values-total n = total-bound n (w * m) _ (λ i _. values-most i)
 
-  pub height-most : (i : ℕ) → height m (values_of m w r i) ≤ w
-  height-most i = height_bound m w _ (values-most i)
+  pub height_most : (i : ℕ) → height m (values_of m w r i) ≤ w
+  height_most i = height_bound m w _ (values-most i)

@@ -12,7 +12,7 @@ use Rattle.theory_algebra.specs.Field.{Field}
 use Rattle.theory_algebra.specs.Polynomial.{Degree}
 use Rattle.theory_algebra.specs.Prime.{Prime}
 use Rattle.theory_algebra.specs.Residue.{Zp, of}
-use Rattle.theory_rings.specs.PrimeField.{zp-field}
+use Rattle.theory_rings.specs.PrimeField.{zp_field}
 use Rattle.theory_rings.proofs.PrimeField.{field-zero}
 use Rattle.theory_algebra.proofs.Residue.{zp-path}
 use Rattle.theory_rings.specs.Series.{series}
@@ -41,7 +41,7 @@ holds-coefficients p l f h = record { below = λ i _. let e = h.at i in let b = 
 
 module _ (p : ℕ) (P : Prime p) where
   abbrev K : Field (Zp p)
-  K = zp-field p P
+  K = zp_field p P
 
   -- the number of a coefficient that is zero
   zero_number : (a : Zp p) → a ≡ K.ring.𝟘 → a.val ≡ 0

@@ -70,7 +70,7 @@ refusal-length number place h k = rw (length-append (line (bytes "answer=") (num
 
 -- the numbers of an answer, and how many they are
 pub record Answerable (rank steps n m d : ℕ) (r det : List ℕ) : Type 0 where
-  pub rank-fits : rank < 18446744073709551616
+  pub rank_fits : rank < 18446744073709551616
   pub steps-fits : steps < 18446744073709551616
   pub rows : n ≤ 8
   pub columns : m ≤ 8
@@ -104,7 +104,7 @@ module _ (rank steps n m d : ℕ) (r det : List ℕ) (h : Answerable rank steps 
     length-append (line (bytes "rank=") (rank ∷ [])) (line (bytes "steps=") (steps ∷ [])),
     length-append (result_text n m d r) (determinant_text n m det),
     done-length,
-    field-length (bytes "rank=") rank h.rank-fits,
+    field-length (bytes "rank=") rank h.rank_fits,
     field-length (bytes "steps=") steps h.steps-fits,
     result-length,
     determinant-length,

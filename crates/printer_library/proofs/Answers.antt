@@ -61,18 +61,18 @@ ReducedTo p n m d a r (Done rank count rows) = ResultAsked p n m d a r rank coun
 pub reduced-to : {p n m d : ℕ} {a r u v r' u' v' : List ℕ} → MatrixTaken p n m d a → length r ≡ n * (m * (d + 1))
     → length u ≡ n * (n * (n * (d + 1))) → length v ≡ n * (n * (d + 1)) → (x : Answer)
     → Answered (record { p = p; n = n; m = m; d = d; a = a; r = r; u = u; v = v }) r' u' v' x → ReducedTo p n m d a r' x
-reduced-to {p} {n} {m} {d} {a} {r} {u} {v} asked r-size u-size v-size (NotDone y) answered =
+reduced-to {p} {n} {m} {d} {a} {r} {u} {v} asked r_size u_size v_size (NotDone y) answered =
     let given = length a ∷ length r ∷ length u ∷ length v ∷ [] in
     let fine = past-numbers (length_rule given (reduction_sizes n m d) ∷ coefficient_rule p a ∷ []) asked.numbers
-    (inr ((λ i. asked.size i ∷ r-size i ∷ u-size i ∷ v-size i ∷ []), inr (asked.residues, (refl, refl)))) in
+    (inr ((λ i. asked.size i ∷ r_size i ∷ u_size i ∷ v_size i ∷ []), inr (asked.residues, (refl, refl)))) in
     omega (arith, refusal-number y, (matrix-decided _ _ _ _ answered.told fine).0)
-reduced-to asked r-size u-size v-size (Done rank count rows) answered =
+reduced-to asked r_size u_size v_size (Done rank count rows) answered =
     record { matrix = asked; reduced = alone (answered.done refl).0 }
 
 -- a determinant has at most 505 places
 pub determinant-few : {p n m d : ℕ} → Numbers p n m d → n * d + 1 ≤ 505
 determinant-few {n = n} {d = d} numbers =
-    let most : n * d ≤ 8 * 63 = mul-le-mul numbers.shape.rows-most numbers.degree in omega arith
+    let most : n * d ≤ 8 * 63 = mul-le-mul numbers.shape.rows_most numbers.degree in omega arith
 
 -- numbers below p have at most five digits
 writable : {p : ℕ} {l : List ℕ} → p ≤ 65521 → Coefficients p l → Writable l
@@ -91,13 +91,13 @@ module _ {p n m d : ℕ} {a r det : List ℕ} {rank count : ℕ} (asked : Result
   result-size = ended.held.size
 
   pub result-answerable : rank < 18446744073709551616 → count < 18446744073709551616 → Answerable rank count n m d r det
-  result-answerable rank-fits count_fits =
+  result-answerable rank_fits count_fits =
       let numbers = asked.matrix.numbers in
       record {
-        rank-fits = rank-fits;
+        rank_fits = rank_fits;
         steps-fits = count_fits;
-        rows = numbers.shape.rows-most;
-        columns = numbers.shape.columns-most;
+        rows = numbers.shape.rows_most;
+        columns = numbers.shape.columns_most;
         degree = numbers.degree;
         result-size = omega (arith, result-size, mul_assoc n m (d + 1));
         result-small = writable numbers.modulus.most (held-coefficients (by_rows n m (d + 1)) p ended.held);

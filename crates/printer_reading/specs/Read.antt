@@ -39,7 +39,7 @@ FieldRead g s BadNumber = g ≡ bad
 pub record CellsAsked (s : List ℕ) (at n m d : ℕ) (room : List ℕ) : Type 0 where
   pub inside : at ≤ length s
   pub rows : n ≤ 8
-  pub some-columns : 1 ≤ m
+  pub some_columns : 1 ≤ m
   pub columns : m ≤ 8
   pub degree : d ≤ 63
   pub places : length room ≡ n * m * (d + 1)

@@ -6,7 +6,7 @@ use Rattle.printer_writing.specs.Wrote.{Room}
 -- d+1 numbers for each cell of an n by m matrix
 pub record MatrixToWrite (n m d : ℕ) (r : List ℕ) : Type 0 where
   pub rows : n ≤ 8
-  pub some-columns : 1 ≤ m
+  pub some_columns : 1 ≤ m
   pub columns : m ≤ 8
   pub degree : d ≤ 63
   pub places : n * m * (d + 1) ≤ length r

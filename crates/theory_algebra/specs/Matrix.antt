@@ -2,7 +2,7 @@
 -- how many of them are meant is said where it matters.
 use Rattle.std.specs.Prelude.{◌≡◌, ℕ, ◌<◌}
 use Rattle.theory_algebra.specs.Ring.{CommRing}
-use Rattle.theory_algebra.specs.Cases.{if-equal}
+use Rattle.theory_algebra.specs.Cases.{if_equal}
 use Rattle.theory_algebra.specs.Sum.{sum}
 
 -- A i j is the entry in row i and column j
@@ -11,7 +11,7 @@ Mat F = ℕ → ℕ → F
 
 -- i and j exchanged, every other number as it is
 unfoldable pub swap : ℕ → ℕ → ℕ → ℕ
-swap i j k = if-equal k i j (if-equal k j i k)
+swap i j k = if_equal k i j (if_equal k j i k)
 
 module _ {F : Type 0} where
   -- A and B agree in their first n rows and m columns
@@ -24,7 +24,7 @@ module _ {F : Type 0} where
 
   -- A with row r replaced by u
   unfoldable pub setrow : Mat F → ℕ → (ℕ → F) → Mat F
-  setrow A r u i = if-equal i r u (A i)
+  setrow A r u i = if_equal i r u (A i)
 
   -- row i is row σ i of A
   abbrev pub permute : (ℕ → ℕ) → Mat F → Mat F
@@ -37,7 +37,7 @@ module _ {F : Type 0} (R : CommRing F) where
 
   -- 1 on the diagonal, 0 elsewhere
   unfoldable pub identity : Mat F
-  identity i j = if-equal i j R.𝟙 R.𝟘
+  identity i j = if_equal i j R.𝟙 R.𝟘
 
   -- c times row k is added to row l of A
   abbrev pub addrow : Mat F → ℕ → ℕ → F → Mat F

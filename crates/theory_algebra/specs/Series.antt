@@ -1,7 +1,7 @@
 -- Power series in x over a commutative ring: f stands for the sum of f k x^k over all k.
 use Rattle.std.specs.Prelude.{ℕ, suc, ◌-◌}
 use Rattle.theory_algebra.specs.Ring.{CommRing}
-use Rattle.theory_algebra.specs.Cases.{if-equal}
+use Rattle.theory_algebra.specs.Cases.{if_equal}
 use Rattle.theory_algebra.specs.Sum.{sum}
 
 module _ {F : Type 0} (R : CommRing F) where
@@ -15,7 +15,7 @@ module _ {F : Type 0} (R : CommRing F) where
 
   -- c x^d
   unfoldable pub mono : F → ℕ → ℕ → F
-  mono c d k = if-equal k d c R.𝟘
+  mono c d k = if_equal k d c R.𝟘
 
   -- the series of c alone
   abbrev pub const : F → ℕ → F

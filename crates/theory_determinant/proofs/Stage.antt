@@ -21,13 +21,13 @@ use Rattle.theory_lists.proofs.Skip.{skip-fits, total-skip}
 use Rattle.theory_lists.proofs.Total.{total-le, total-one, total-bound}
 use Rattle.theory_reduction.specs.Pivot.{values, height}
 use Rattle.theory_reduction.specs.Pair.{StepRows}
-use Rattle.theory_reduction.specs.Step.{reduce-row}
+use Rattle.theory_reduction.specs.Step.{reduce_row}
 use Rattle.theory_reduction.proofs.Index.{height-pos, clash-second}
 use Rattle.theory_reduction.proofs.Pivot.{value-bound, value-null}
 use Rattle.theory_reduction.proofs.Lowering.{lowered}
 use Rattle.theory_reduction.proofs.Degrees.{totals-fall, column-kept, step-no-higher}
-use Rattle.theory_reduction.specs.Narrow.{pivot-degree}
-use Rattle.theory_determinant.specs.Determinant.{without, sign_at, det, with-entry}
+use Rattle.theory_reduction.specs.Narrow.{pivot_degree}
+use Rattle.theory_determinant.specs.Determinant.{without, sign_at, det, with_entry}
 use Rattle.theory_determinant.specs.Stage.{degrees}
 use Rattle.theory_determinant.specs.Stage as Specs
 use Rattle.theory_determinant.proofs.Degree.{below-sign}
@@ -53,51 +53,51 @@ module _ {F : Type 0} (K : Field F) (size B : ℕ) (whole : ℕ → F) where
     value = v;
     bounded = b;
     within = within;
-    less = omega (arith, total-le (suc m) (pivot-degree K (suc m) m size T) e le);
+    less = omega (arith, total-le (suc m) (pivot_degree K (suc m) m size T) e le);
     column = λ s l. below_more K.ring (T s m) _ _ (room s l) (rows s l m (omega arith));
-    product-below = p;
+    product_below = p;
   }
     where
-      le : (s : ℕ) → s < suc m → pivot-degree K (suc m) m size T s ≤ e s
+      le : (s : ℕ) → s < suc m → pivot_degree K (suc m) m size T s ≤ e s
       le s l = degree-least K m size (T s) (b s l) (e s) (λ c lc. rows s l c (omega arith))
 
-      room : (s : ℕ) → s < suc m → suc (e s) ≤ suc (pivot-degree K (suc m) m size T s + (E - degrees K size m T))
+      room : (s : ℕ) → s < suc m → suc (e s) ≤ suc (pivot_degree K (suc m) m size T s + (E - degrees K size m T))
       room s l = omega (
         arith,
         le s l,
         total-skip m s e (omega arith),
-        total-skip m s (pivot-degree K (suc m) m size T) (omega arith),
-        total-le m (λ i. pivot-degree K (suc m) m size T (skip s i)) (λ i. e (skip s i)) (λ i li. le (skip s i) (skip-fits m s i li)),
+        total-skip m s (pivot_degree K (suc m) m size T) (omega arith),
+        total-le m (λ i. pivot_degree K (suc m) m size T (skip s i)) (λ i. e (skip s i)) (λ i li. le (skip s i) (skip-fits m s i li)),
       )
 
   module _ {E m : ℕ} {T : ℕ → Row F} {product : ℕ → F} (x : Stage E m T product) where
     abbrev rows : ℕ → ℕ
-    rows = pivot-degree K (suc m) m size T
+    rows = pivot_degree K (suc m) m size T
 
     pub stage-column : (s : ℕ) → s < suc m → Below K.ring (T s m) (suc B)
     stage-column s l = below_more K.ring (T s m) _ _ (omega (arith, x.less, x.within, total-one (suc m) s rows l)) (x.column s l)
 
     -- a step of the first kind: what it makes, and what it adds to the parted column
     module _ (l k : ℕ) (r : StepRows (suc m) m (values K m size T) l k) where
-      pub stage-step : Stage E m (reduce-row K m size l k T) product
+      pub stage-step : Stage E m (reduce_row K m size l k T) product
       stage-step =
           let w = lowered K (suc m) m size T l k x.bounded r in
           let y = step-no-higher K (suc m) m size T l k x.bounded w in
           record {
-            value = ap (λ d. product ⊛ d) (det-addrow S (suc m) T l k _ r.l-fits r.k-fits r.apart) ∙ x.value;
+            value = ap (λ d. product ⊛ d) (det-addrow S (suc m) T l k _ r.l_fits r.k_fits r.apart) ∙ x.value;
             bounded = w.bounded;
             within = x.within;
             less = omega (arith, x.less, totals-fall K (suc m) m size y);
             column = λ s ls. rw N.sub-zero at (column-kept K (suc m) m size y E x.less T m 0 (λ i li. rw N.sub-zero (x.column i li)) s ls);
-            product-below = x.product-below;
+            product_below = x.product_below;
           }
 
       pub stage-short : Below K.ring (T k m) (height m (values K m size T k) + (E - degrees K size m T))
-      stage-short = below_more K.ring (T k m) _ _ (omega (arith, height-pos m _ (clash-second r.clash))) (x.column k r.k-fits)
+      stage-short = below_more K.ring (T k m) _ _ (omega (arith, height-pos m _ (clash-second r.clash))) (x.column k r.k_fits)
 
       pub stage-room : height m (values K m size T k) + (E - degrees K size m T) + (height m (values K m size T l) - height m (values K m size T k))
           ≤ suc B
-      stage-room = omega (arith, x.less, x.within, r.degrees, total-one (suc m) l rows r.l-fits)
+      stage-room = omega (arith, x.less, x.within, r.degrees, total-one (suc m) l rows r.l_fits)
 
     -- a row that is zero in the first m columns
     module _ (k : ℕ) (fits : k < suc m) (none : values K m size T k ≡ 0) where
@@ -106,7 +106,7 @@ module _ {F : Type 0} (K : Field F) (size B : ℕ) (whole : ℕ → F) where
 
       pub stage-product : Below K.ring (product ⊛ T k m) (suc (B - degrees K size m T))
       stage-product = below_more K.ring _ _ _ (omega (arith, x.less, x.within, flat))
-          (below-mul K.ring product (T k m) _ _ x.product-below (x.column k fits))
+          (below-mul K.ring product (T k m) _ _ x.product_below (x.column k fits))
 
       expanded : product ⊛ (sign_at S (k + m) ⊛ (T k m ⊛ det S m (without k T))) ≡ whole
       expanded = ap (λ d. product ⊛ d) (sym (det-last S m k T (omega arith) zeros)) ∙ x.value
@@ -115,9 +115,9 @@ module _ {F : Type 0} (K : Field F) (size B : ℕ) (whole : ℕ → F) where
           zeros j lj = fun_ext (λ c. value-null K m size (T k) (x.bounded k fits) none (term j c) lj) ∙ sym (zero-series K.ring)
 
       -- is taken out, and the last of the columns is parted
-      pub stage-turn : (m' : ℕ) → suc m' ≡ m → Stage (degrees K size m T) m' (without k T) (with-entry S k m T product)
+      pub stage-turn : (m' : ℕ) → suc m' ≡ m → Stage (degrees K size m T) m' (without k T) (with_entry S k m T product)
       stage-turn m' e = begun (degrees K size m T) m' (without k T) _ (λ s. rows (skip k s))
-          (ap (λ y. with-entry S k m T product ⊛ det S y (without k T)) e ∙ moved (sign_at S (k + m)) (T k m) _ ∙ expanded)
+          (ap (λ y. with_entry S k m T product ⊛ det S y (without k T)) e ∙ moved (sign_at S (k + m)) (T k m) _ ∙ expanded)
           (λ s l c lc. x.bounded (skip k s) (kept s l) c (omega arith))
           (λ s l c lc. degree-bounds K m size (T (skip k s)) (x.bounded (skip k s) (kept s l)) c (omega arith))
           (omega (arith, flat, total-skip m k rows (omega arith), ap (λ y. total y (λ s. rows (skip k s))) e))

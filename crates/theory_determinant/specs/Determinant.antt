@@ -28,5 +28,5 @@ module _ {F : Type 0} (R : CommRing F) where
 
   -- Figure 4 of the report: "det := (-1)^(k+i+1) t det", where t is the entry of row k in the parted column i.
   -- There rows are counted from 1, here from 0.
-  abbrev pub with-entry : ℕ → ℕ → Mat F → F → F
-  with-entry k i T product = R.mul (sign_at (k + i)) (R.mul product (T k i))
+  abbrev pub with_entry : ℕ → ℕ → Mat F → F → F
+  with_entry k i T product = R.mul (sign_at (k + i)) (R.mul product (T k i))

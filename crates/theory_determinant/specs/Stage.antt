@@ -8,12 +8,12 @@ use Rattle.theory_rings.specs.Series.{series}
 use Rattle.theory_lattice.specs.Row.{Row}
 use Rattle.theory_lattice.specs.PolynomialMatrix.{AllBounded}
 use Rattle.theory_lists.specs.Total.{total}
-use Rattle.theory_reduction.specs.Narrow.{pivot-degree}
+use Rattle.theory_reduction.specs.Narrow.{pivot_degree}
 use Rattle.theory_determinant.specs.Determinant.{det}
 
 -- the pivot degrees of the m + 1 rows of T in its first m columns, together
 abbrev pub degrees : {F : Type 0} → Field F → ℕ → ℕ → (ℕ → Row F) → ℕ
-degrees K size m T = total (suc m) (pivot-degree K (suc m) m size T)
+degrees K size m T = total (suc m) (pivot_degree K (suc m) m size T)
 
 -- What is known at every moment of the stage of m columns. The degree of the whole determinant is at most B. The budget E is what the pivot
 -- degrees of the rows were together at the start of the stage: with every step they fall, and what they have lost of E is how far
@@ -24,5 +24,5 @@ pub record Stage {F : Type 0} (K : Field F) (size B : ℕ) (whole : ℕ → F) (
   pub bounded : AllBounded K.ring (suc m) m size T
   pub within : E ≤ B
   pub less : degrees K size m T ≤ E
-  pub column : (s : ℕ) → s < suc m → Below K.ring (T s m) (suc (pivot-degree K (suc m) m size T s + (E - degrees K size m T)))
-  pub product-below : Below K.ring product (suc (B - E))
+  pub column : (s : ℕ) → s < suc m → Below K.ring (T s m) (suc (pivot_degree K (suc m) m size T s + (E - degrees K size m T)))
+  pub product_below : Below K.ring product (suc (B - E))

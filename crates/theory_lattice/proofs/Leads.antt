@@ -29,7 +29,7 @@ module _ {F : Type 0} (K : Field F) {m : ℕ} (T : TermOrder m) (n : ℕ) where
       → (i : ℕ) → i < n → (s : Term) → Lead R T s (P i) → (g : Greatest K T n (e.W i) Q) × (s ≡ up g.exp g.row)
   unfolding product comb
   lead-multiple P Q e known apart i l s x =
-      led-lead K T n (e.W i) Q (lead-theorem K T n (e.W i) Q (λ j lj. e.inverse.left-polynomial i j l lj) known apart) s
+      led-lead K T n (e.W i) Q (lead-theorem K T n (e.W i) Q (λ j lj. e.inverse.left_polynomial i j l lj) known apart) s
       (lead-same R T s (P i) _ (λ u lu. sym (ap (λ f. f u.deg) (e.carries i u.col l lu))) x)
 
   -- and, since that is one of a row of P in turn, it is itself the leading term of a row of Q

@@ -28,7 +28,7 @@ module _ {F : Type 0} {R : CommRing F} {n m : ℕ} where
     inverse = inverse-sym R n e.W e.W' e.inverse;
     carries = same-trans n m _ _ A
         (product-same (series R) n n m e.W' e.W' B _ (same_refl n n e.W') (same-sym n m _ B e.carries))
-        (cancel_left R n m e.W' e.W A e.inverse.right-left);
+        (cancel_left R n m e.W' e.W A e.inverse.right_left);
   }
 
   pub equivalent-trans : {A B C : ℕ → Row F} → LeftEquivalent R n m A B → LeftEquivalent R n m B C → LeftEquivalent R n m A C

@@ -27,7 +27,7 @@ module _ {F : Type 0} (R : CommRing F) where
   move n m A B U V' E E' e t = record {
     inverse = inverse-product R n E E' U V' e t.inverse;
     forth = chain R n m E U A B (product S n E B) t.forth (same_refl n m _);
-    back = chain R n m V' E' (product S n E B) B A (cancel_left R n m E' E B e.right-left) t.back;
+    back = chain R n m V' E' (product S n E B) B A (cancel_left R n m E' E B e.right_left) t.back;
   }
 
   -- the matrix that adds q times row k to row l
@@ -41,10 +41,10 @@ module _ {F : Type 0} (R : CommRing F) where
 
   subtracter : (n l k : ℕ) (q : ℕ → F) → IsPolynomial R q → k < n → l ≢ k → Inverses R n (adder l k (S.neg q)) (adder l k q)
   subtracter n l k q p lk ne = record {
-    left-polynomial = λ i j _ _. adder-polynomial l k (S.neg q) (polynomial-neg R q p) i j;
-    right-polynomial = λ i j _ _. adder-polynomial l k q p i j;
-    left-right = λ i j li lj. rw (Ring.neg-neg S q) at (addrow-inverse S n l k (S.neg q) lk ne i j li lj);
-    right-left = addrow-inverse S n l k q lk ne;
+    left_polynomial = λ i j _ _. adder-polynomial l k (S.neg q) (polynomial-neg R q p) i j;
+    right_polynomial = λ i j _ _. adder-polynomial l k q p i j;
+    left_right = λ i j li lj. rw (Ring.neg-neg S q) at (addrow-inverse S n l k (S.neg q) lk ne i j li lj);
+    right_left = addrow-inverse S n l k q lk ne;
   }
 
   -- q times row k is taken from row l of B and of U, and q times column l is added to column k of V'

@@ -32,33 +32,33 @@ module _ {F : Type 0} (R : CommRing F) where
 
   pub inverse-sym : (n : ℕ) (U V' : ℕ → Row F) → Inverses R n U V' → Inverses R n V' U
   inverse-sym n U V' v = record {
-    left-polynomial = v.right-polynomial;
-    right-polynomial = v.left-polynomial;
-    left-right = v.right-left;
-    right-left = v.left-right;
+    left_polynomial = v.right_polynomial;
+    right_polynomial = v.left_polynomial;
+    left_right = v.right_left;
+    right_left = v.left_right;
   }
 
   pub inverse-identity : (n : ℕ) → Inverses R n I I
   inverse-identity n = record {
-    left-polynomial = λ i j _ _. polynomial-identity R i j;
-    right-polynomial = λ i j _ _. polynomial-identity R i j;
-    left-right = identity-product (series R) n n I;
-    right-left = identity-product (series R) n n I;
+    left_polynomial = λ i j _ _. polynomial-identity R i j;
+    right_polynomial = λ i j _ _. polynomial-identity R i j;
+    left_right = identity-product (series R) n n I;
+    right_left = identity-product (series R) n n I;
   }
 
   -- (A B) (B' A') = 1
   product-right : (n : ℕ) (A A' B B' : ℕ → Row F) → Inverses R n A A' → Inverses R n B B' → Same n n (times n (times n A B) (times n B' A')) I
-  product-right n A A' B B' a b = chain n n A B (times n B' A') A' I (cancel_left n n B B' A' b.left-right) a.left-right
+  product-right n A A' B B' a b = chain n n A B (times n B' A') A' I (cancel_left n n B B' A' b.left_right) a.left_right
 
   product-polynomial : (n : ℕ) (A B : ℕ → Row F) → PolMat R n n A → PolMat R n n B → PolMat R n n (times n A B)
   product-polynomial n A B a b i j li lj = polynomial-product R n A B i j (λ k lk. a i k li lk) (λ k lk. b k j lk lj)
 
   pub inverse-product : (n : ℕ) (A A' B B' : ℕ → Row F) → Inverses R n A A' → Inverses R n B B' → Inverses R n (times n A B) (times n B' A')
   inverse-product n A A' B B' a b = record {
-    left-polynomial = product-polynomial n A B a.left-polynomial b.left-polynomial;
-    right-polynomial = product-polynomial n B' A' b.right-polynomial a.right-polynomial;
-    left-right = product-right n A A' B B' a b;
-    right-left = product-right n B' B A' A (inverse-sym n B B' b) (inverse-sym n A A' a);
+    left_polynomial = product-polynomial n A B a.left_polynomial b.left_polynomial;
+    right_polynomial = product-polynomial n B' A' b.right_polynomial a.right_polynomial;
+    left_right = product-right n A A' B B' a b;
+    right_left = product-right n B' B A' A (inverse-sym n B B' b) (inverse-sym n A A' a);
   }
 
   -- only the first rows and columns count
@@ -66,10 +66,10 @@ module _ {F : Type 0} (R : CommRing F) where
       → Transformed R n m A B U V' → Transformed R n m A B₁ U₁ V₁
   transformed-same n m A B B₁ U U₁ V' V₁ b u v t = record {
     inverse = record {
-      left-polynomial = λ i j li lj. rw (u i j li lj) at (t.inverse.left-polynomial i j li lj);
-      right-polynomial = λ i j li lj. rw (v i j li lj) at (t.inverse.right-polynomial i j li lj);
-      left-right = λ i j li lj. product-same (series R) n n n U₁ U V₁ V' u' v' i j li lj ∙ t.inverse.left-right i j li lj;
-      right-left = λ i j li lj. product-same (series R) n n n V₁ V' U₁ U v' u' i j li lj ∙ t.inverse.right-left i j li lj;
+      left_polynomial = λ i j li lj. rw (u i j li lj) at (t.inverse.left_polynomial i j li lj);
+      right_polynomial = λ i j li lj. rw (v i j li lj) at (t.inverse.right_polynomial i j li lj);
+      left_right = λ i j li lj. product-same (series R) n n n U₁ U V₁ V' u' v' i j li lj ∙ t.inverse.left_right i j li lj;
+      right_left = λ i j li lj. product-same (series R) n n n V₁ V' U₁ U v' u' i j li lj ∙ t.inverse.right_left i j li lj;
     };
     forth = λ i j li lj. product-same (series R) n n m U₁ U A A u' (same_refl n m A) i j li lj ∙ t.forth i j li lj ∙ b i j li lj;
     back = λ i j li lj. product-same (series R) n n m V₁ V' B₁ B v' (same-sym n m B B₁ b) i j li lj ∙ t.back i j li lj;

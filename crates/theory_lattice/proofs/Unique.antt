@@ -38,7 +38,7 @@ module _ {F : Type 0} (K : Field F) where
         → Members b.rank b.lead c.rank c.lead
     members {P} {Q} b c e i l =
         let found = same-lead K T n P Q e (basis-known K b) (basis-apart b) (basis-known K c) (basis-apart c) in
-        let (j, lj, x) = found i (omega (arith, b.rank-fits)) (b.lead i) (b.leads i l) in
+        let (j, lj, x) = found i (omega (arith, b.rank_fits)) (b.lead i) (b.leads i l) in
         let (l', w) = basis-lead c j lj (b.lead i) x in
         (j, l', w)
 
@@ -71,6 +71,6 @@ module _ {F : Type 0} (K : Field F) where
           zero_row : Null R m (comb R n (factors i) P)
           zero_row = led-null K T n (factors i) P
               (lead-theorem K T n (factors i) P
-              (λ j lj. polynomial-add R _ _ (e.inverse.left-polynomial i j li lj) (polynomial-neg R _ (polynomial-identity R i j)))
+              (λ j lj. polynomial-add R _ _ (e.inverse.left_polynomial i j li lj) (polynomial-neg R _ (polynomial-identity R i j)))
               (basis-known K b) (basis-apart b))
               (λ j lj t x a. difference i li (up a t) x.inside ∙ rw (agree i j li lj t x a) (Ring.add-neg R _))

@@ -17,10 +17,10 @@ module _ {F : Type 0} (R : CommRing F) where
 
   -- U and V' are matrices of polynomials, n by n, and inverse to one another (`V` is a reserved word)
   pub record Inverses (n : ℕ) (U V' : ℕ → Row F) : Type 0 where
-    pub left-polynomial : PolMat n n U
-    pub right-polynomial : PolMat n n V'
-    pub left-right : Same n n (product (series R) n U V') (identity (series R))
-    pub right-left : Same n n (product (series R) n V' U) (identity (series R))
+    pub left_polynomial : PolMat n n U
+    pub right_polynomial : PolMat n n V'
+    pub left_right : Same n n (product (series R) n U V') (identity (series R))
+    pub right_left : Same n n (product (series R) n V' U) (identity (series R))
 
   -- A with n rows and m columns was transformed to B: U A = B and V' B = A
   pub record Transformed (n m : ℕ) (A B U V' : ℕ → Row F) : Type 0 where

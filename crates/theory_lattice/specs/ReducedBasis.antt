@@ -11,7 +11,7 @@ use Rattle.theory_lattice.specs.Lead.{Lead}
 -- `lead i` is the leading term of row i
 pub record ReducedBasis {F : Type 0} (R : CommRing F) {m : ℕ} (T : TermOrder m) (O : RowOrder) (n : ℕ) (P : ℕ → Row F) : Type 0 where
   pub rank : ℕ
-  pub rank-fits : rank ≤ n
+  pub rank_fits : rank ≤ n
   pub lead : ℕ → Term
   pub leads : (i : ℕ) → i < rank → Lead R T (lead i) (P i)
   pub null : (i : ℕ) → rank ≤ i → i < n → Null R m (P i)

@@ -51,14 +51,14 @@ block-hit n s x l = (((N.div-lt_iff_lt-mul some).1 l, N.mod-lt x some), N.div-ad
 pub spot-hit : (n m w x : ℕ) → x < n * (m * w) → Hit n m w (spot m w) x
 spot-hit n m w x l =
     let ((row_fits, in_row), is_row) = block-hit n (m * w) x l in
-    let ((col-fits, deg-fits), is-cell) = block-hit m w (x % (m * w)) in_row in
+    let ((col_fits, deg_fits), is-cell) = block-hit m w (x % (m * w)) in_row in
     record {
       row = x / (m * w);
       col = x % (m * w) / w;
       deg = x % (m * w) % w;
       row_fits = row_fits;
-      col-fits = col-fits;
-      deg-fits = deg-fits;
+      col_fits = col_fits;
+      deg_fits = deg_fits;
       same = ap (λ y. x / (m * w) * (m * w) + y) is-cell ∙ is_row;
     }
 
@@ -70,19 +70,19 @@ row-outside m w i x away _ u _ lu same =
 
 -- so that the layout of paper 01 is one
 pub spot-told : {n m w x : ℕ} (a b : Hit n m w (spot m w) x) → (a.row ≡ b.row) × ((a.col ≡ b.col) × (a.deg ≡ b.deg))
-spot-told {m = m} {w = w} a b = spot-own m w _ _ _ _ _ _ a.col-fits a.deg-fits b.col-fits b.deg-fits (a.same ∙ sym b.same)
+spot-told {m = m} {w = w} a b = spot-own m w _ _ _ _ _ _ a.col_fits a.deg_fits b.col_fits b.deg_fits (a.same ∙ sym b.same)
 
 -- in every layout a place tells its row
 module _ {n m w : ℕ} (L : Layout n m w) where
   abbrev hit : (i j t : ℕ) → i < n → j < m → t < w → {x : ℕ} → L.spot i j t ≡ x → Hit n m w L.spot x
-  hit i j t li lj lt same = record { row = i; col = j; deg = t; row_fits = li; col-fits = lj; deg-fits = lt; same = same }
+  hit i j t li lj lt same = record { row = i; col = j; deg = t; row_fits = li; col_fits = lj; deg_fits = lt; same = same }
 
   pub own_row : (i j t i' j' t' : ℕ) → i < n → j < m → t < w → i' < n → j' < m → t' < w → L.spot i j t ≡ L.spot i' j' t' → i ≡ i'
   own_row i j t i' j' t' li lj lt li' lj' lt' same = (L.own _ (hit i j t li lj lt same) (hit i' j' t' li' lj' lt' refl)).0
 
 abbrev turned-hit : {n m w : ℕ} {spot : ℕ → ℕ → ℕ → ℕ} {x : ℕ} → Hit n m w spot x → Hit m n w (λ j i t. spot i j t) x
 turned-hit h =
-    record { row = h.col; col = h.row; deg = h.deg; row_fits = h.col-fits; col-fits = h.row_fits; deg-fits = h.deg-fits; same = h.same }
+    record { row = h.col; col = h.row; deg = h.deg; row_fits = h.col_fits; col_fits = h.row_fits; deg_fits = h.deg_fits; same = h.same }
 
 -- the same places with the columns as rows
 abbrev pub turned : {n m w : ℕ} → Layout n m w → Layout m n w

@@ -4,7 +4,7 @@ use mathlib.Core.Logic.{◌≢◌}
 use Prim.Native.Nat.{ℕ, zero, suc, ◌+◌, ◌-◌, ◌*◌, ◌≤◌, ◌<◌}
 use native.Mathlib.Omega.{arith}
 use native.Mathlib.Nat as N
-use Rattle.theory_algebra.specs.Cases.{if-equal}
+use Rattle.theory_algebra.specs.Cases.{if_equal}
 use Rattle.theory_algebra.proofs.Cases.{case-le, if-equal-same, if-equal-other}
 use Rattle.theory_lists.specs.Total.{total}
 
@@ -86,7 +86,7 @@ unfolding total
 total-injection zero r f g σ fits apart le = omega arith
 total-injection (suc n) r f g σ fits apart le = case-le 1 (f n)
     (λ p. let x : ℕ = σ n (omega arith) p in
-    let rest : ℕ → ℕ = λ j. if-equal j x 0 (g j) in
+    let rest : ℕ → ℕ = λ j. if_equal j x 0 (g j) in
     let other : (j : ℕ) → j ≢ x → rest j ≡ g j = λ j ne. if-equal-other j x 0 (g j) ne in
     omega (
       arith,

@@ -24,8 +24,8 @@ pub record Hit (n m w : ℕ) (spot : ℕ → ℕ → ℕ → ℕ) (x : ℕ) : Ty
   pub col : ℕ
   pub deg : ℕ
   pub row_fits : row < n
-  pub col-fits : col < m
-  pub deg-fits : deg < w
+  pub col_fits : col < m
+  pub deg_fits : deg < w
   pub same : spot row col deg ≡ x
 
 -- a layout of n·m·w places: every coefficient has a spot of its own, and every place of the buffer is the spot of one

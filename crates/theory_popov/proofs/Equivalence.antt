@@ -24,7 +24,7 @@ form-basis : {F : Type 0} (R : CommRing F) (n m : ℕ) (P : ℕ → Row F) → P
 unfolding degree-over-position
 form-basis R n m P form = record {
   rank = form.rank;
-  rank-fits = form.rank-fits;
+  rank_fits = form.rank_fits;
   lead = form.lead;
   leads = λ i l. (lead-pivot R m (form.lead i) (P i)).1 (form.pivots i l);
   null = form.null;

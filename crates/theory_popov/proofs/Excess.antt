@@ -10,14 +10,14 @@ use Rattle.theory_algebra.proofs.Cases.{case-le}
 use Rattle.theory_lattice.specs.Row.{Row, coef, Bounded}
 use Rattle.theory_reduction.specs.Pivot.{top}
 use Rattle.theory_reduction.proofs.Pivot.{Top, top-is}
-use Rattle.theory_popov.specs.SecondKind.{pivot-of, excess, excessive}
+use Rattle.theory_popov.specs.SecondKind.{pivot_of, excess, excessive}
 
 module _ {F : Type 0} (K : Field F) (m size : ℕ) (f g : Row F) where
   abbrev column : ℕ → F
-  column = f (pivot-of K m size g).col
+  column = f (pivot_of K m size g).col
 
   abbrev degree : ℕ
-  degree = (pivot-of K m size g).deg
+  degree = (pivot_of K m size g).deg
 
   abbrev x : ℕ
   x = excess K m size f g

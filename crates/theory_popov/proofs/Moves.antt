@@ -20,10 +20,10 @@ module _ {F : Type 0} (R : CommRing F) (n m : ℕ) (A B U V' : ℕ → Row F) wh
   -- row i is row σ i
   permuter : {σ τ : ℕ → ℕ} → Permutation n σ τ → Inverses R n (permute σ (identity S)) (permute τ (identity S))
   permuter {σ} {τ} p = record {
-    left-polynomial = λ i j _ _. polynomial-identity R (σ i) j;
-    right-polynomial = λ i j _ _. polynomial-identity R (τ i) j;
-    left-right = permute-inverse S n σ τ p.fits p.there_back;
-    right-left = permute-inverse S n τ σ p.back_fits p.back-there;
+    left_polynomial = λ i j _ _. polynomial-identity R (σ i) j;
+    right_polynomial = λ i j _ _. polynomial-identity R (τ i) j;
+    left_right = permute-inverse S n σ τ p.fits p.there_back;
+    right_left = permute-inverse S n τ σ p.back_fits p.back-there;
   }
 
   pub permute-transformed : {σ τ : ℕ → ℕ} → Permutation n σ τ → Transformed R n m A B U V'
@@ -40,10 +40,10 @@ module _ {F : Type 0} (R : CommRing F) (n m : ℕ) (A B U V' : ℕ → Row F) wh
       (units : (i : ℕ) → i < n → S.mul (u i) (w i) ≡ S.𝟙) where
     dilater : Inverses R n (dilate S u (identity S)) (dilate S w (identity S))
     dilater = record {
-      left-polynomial = λ i j li _. polynomial-mul R _ _ (pu i li) (polynomial-identity R i j);
-      right-polynomial = λ i j li _. polynomial-mul R _ _ (pw i li) (polynomial-identity R i j);
-      left-right = dilate-inverse S n u w units;
-      right-left = dilate-inverse S n w u (λ i l. S.mul_comm (w i) (u i) ∙ units i l);
+      left_polynomial = λ i j li _. polynomial-mul R _ _ (pu i li) (polynomial-identity R i j);
+      right_polynomial = λ i j li _. polynomial-mul R _ _ (pw i li) (polynomial-identity R i j);
+      left_right = dilate-inverse S n u w units;
+      right_left = dilate-inverse S n w u (λ i l. S.mul_comm (w i) (u i) ∙ units i l);
     }
 
     pub dilate-transformed : Transformed R n m A B U V' → Transformed R n m A (dilate S u B) (dilate S u U) (transpose (dilate S w (transpose V')))

@@ -14,7 +14,7 @@ use Rattle.theory_reduction.specs.Step.{Carried}
 use Rattle.theory_reduction.proofs.Index.{key-pivot}
 use Rattle.theory_reduction.proofs.Pivot.{value-null, value-pivot}
 use Rattle.theory_reduction.proofs.WeakPopov.{weak-popov-iff}
-use Rattle.theory_popov.specs.SecondKind.{NoRemoval, pivot-of, excesses}
+use Rattle.theory_popov.specs.SecondKind.{NoRemoval, pivot_of, excesses}
 use Rattle.theory_popov.specs.Scaled.{scaled}
 use Rattle.theory_popov.specs.PopovForm.{Before, PopovForm}
 use Rattle.theory_popov.proofs.Ascending.{ascending-same}
@@ -51,15 +51,15 @@ module _ {F : Type 0} (K : Field F) (n m size r : ℕ) (t : Carried F) (y : Tidy
   pub popov-form : 0 < m → NoRemoval n (excesses K m size t.R) → (form : PopovForm K.ring n m P) × (form.rank ≡ r)
   popov-form columns done = (form, refl)
     where
-      pivots : (i : ℕ) → i < r → IsPivot K.ring m (pivot-of K m size (P i)) (P i)
-      pivots i l = value-pivot K m size (P i) (scaled-tidy.bounded i (omega (arith, scaled-tidy.ascends.rank-fits))) (scaled-tidy.ascends.some i l)
+      pivots : (i : ℕ) → i < r → IsPivot K.ring m (pivot_of K m size (P i)) (P i)
+      pivots i l = value-pivot K m size (P i) (scaled-tidy.bounded i (omega (arith, scaled-tidy.ascends.rank_fits))) (scaled-tidy.ascends.some i l)
 
       form : PopovForm K.ring n m P
-      form = let a = scaled-tidy.ascends in let fits = a.rank-fits in record {
-        weak-popov = (weak-popov-iff K n m size P scaled-tidy.bounded).0 a.apart;
+      form = let a = scaled-tidy.ascends in let fits = a.rank_fits in record {
+        weak_popov = (weak-popov-iff K n m size P scaled-tidy.bounded).0 a.apart;
         rank = r;
-        rank-fits = fits;
-        lead = λ i. pivot-of K m size (P i);
+        rank_fits = fits;
+        lead = λ i. pivot_of K m size (P i);
         pivots = pivots;
         null = λ i l li. value-null K m size (P i) (scaled-tidy.bounded i li) (a.none i l li);
         sorted = λ i j l lj. (before-key m _ _ (pivots i (omega arith)).inside (pivots j lj).inside).0 (omega (

@@ -19,7 +19,7 @@ use Rattle.theory_reduction.specs.Pivot.{value}
 use Rattle.theory_reduction.proofs.Index.{height-some, height_bound}
 use Rattle.theory_reduction.proofs.Pivot.{lead-pivot, lead-bounded, value-bound, value-lead, value-pivot, lead-value}
 use Rattle.theory_reduction.proofs.Cancelling.{quotient-degree, multiple-lead, multiple-cancels}
-use Rattle.theory_popov.specs.SecondKind.{pivot-of, excess, exponent, excessive, remover}
+use Rattle.theory_popov.specs.SecondKind.{pivot_of, excess, exponent, excessive, remover}
 use Rattle.theory_popov.proofs.Excess.{excess-below, excess-term}
 
 module _ {F : Type 0} (K : Field F) (m size : ℕ) (f g : Row F) where
@@ -27,10 +27,10 @@ module _ {F : Type 0} (K : Field F) (m size : ℕ) (f g : Row F) where
   T = degree-over-position m
 
   abbrev s : Term
-  s = pivot-of K m size g
+  s = pivot_of K m size g
 
   abbrev t : Term
-  t = pivot-of K m size f
+  t = pivot_of K m size f
 
   abbrev e : ℕ
   e = exponent K m size f g

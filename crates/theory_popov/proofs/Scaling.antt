@@ -20,8 +20,8 @@ use Rattle.theory_lattice.proofs.Lead.{lead-scale}
 use Rattle.theory_reduction.specs.Pivot.{value}
 use Rattle.theory_reduction.specs.Step.{leading}
 use Rattle.theory_reduction.proofs.Pivot.{value-lead, value-null, null-value, lead-value}
-use Rattle.theory_popov.specs.SecondKind.{pivot-of}
-use Rattle.theory_popov.specs.Scaled.{where-some, divisor, dividing}
+use Rattle.theory_popov.specs.SecondKind.{pivot_of}
+use Rattle.theory_popov.specs.Scaled.{some_or_one, divisor, dividing}
 
 module _ {F : Type 0} (K : Field F) where
   infixl 70 ◌⊛◌
@@ -38,7 +38,7 @@ module _ {F : Type 0} (K : Field F) where
     pub inverse-is : dividing K m size r ⊛ divisor K m size r ≡ 𝟙
     inverse-is = go (value K m size r) (λ p. (value-lead K m size r b p).top)
       where
-        go : (v : ℕ) → (0 < v → leading K m size r ≢ 𝟘) → where-some K m size v (K.inv (leading K m size r)) ⊛ where-some K m size v (leading K m size r) ≡ 𝟙
+        go : (v : ℕ) → (0 < v → leading K m size r ≢ 𝟘) → some_or_one K m size v (K.inv (leading K m size r)) ⊛ some_or_one K m size v (leading K m size r) ≡ 𝟙
         go zero ne = Ring.mul-one K.ring 𝟙
         go (suc v) ne = Ring.mul_comm K.ring _ _ ∙ K.mul-inv _ (ne (omega arith))
 
@@ -51,7 +51,7 @@ module _ {F : Type 0} (K : Field F) where
     pub divided-bounded : Bounded K.ring m size divided
     divided-bounded c l = below-const _ (r c) size (b c l)
 
-    lead-divided : 0 < value K m size r → Lead K.ring (degree-over-position m) (pivot-of K m size r) divided
+    lead-divided : 0 < value K m size r → Lead K.ring (degree-over-position m) (pivot_of K m size r) divided
     unfolding scale
     lead-divided p = rw N.zero-add at (lead-scale K (degree-over-position m) _ r 0 _ (degree-mono K.ring _ 0 inverse-some) (value-lead K m size r b p))
 
@@ -63,12 +63,12 @@ module _ {F : Type 0} (K : Field F) where
         (λ t l. below-const _ (r t.col) 0 (λ k _. value-null K m size r b none (term t.col k) l) t.deg zero-le)
         ∙ sym none)
 
-    pub divided-monic : 0 < value K m size r → coef divided (pivot-of K m size r) ≡ 𝟙
+    pub divided-monic : 0 < value K m size r → coef divided (pivot_of K m size r) ≡ 𝟙
     divided-monic p =
-        const-mul-at K.ring _ (r (pivot-of K m size r).col) (pivot-of K m size r).deg
+        const-mul-at K.ring _ (r (pivot_of K m size r).col) (pivot_of K m size r).deg
         ∙ ap (λ x. dividing K m size r ⊛ x) (sym (own (value K m size r) p))
         ∙ inverse-is
       where
-        own : (v : ℕ) → 0 < v → where-some K m size v (leading K m size r) ≡ leading K m size r
+        own : (v : ℕ) → 0 < v → some_or_one K m size v (leading K m size r) ≡ leading K m size r
         own zero p = absurd (omega arith)
         own (suc v) p = refl

@@ -10,7 +10,7 @@ use Rattle.theory_reduction.specs.Process.{Process}
 use Rattle.theory_reduction.specs.Step.{Carried, carry}
 use Rattle.theory_reduction.proofs.Process.{Ends, iterates-keep, iterate, iterates-count, iterates-unique}
 use Rattle.theory_popov.specs.SecondKind.{Highest, Removal, NoRemoval, excesses, remover, remove}
-use Rattle.theory_popov.specs.SecondRun.{second-kind, SecondRuns}
+use Rattle.theory_popov.specs.SecondRun.{second_kind, SecondRuns}
 use Rattle.theory_popov.specs.Tidy.{Tidy}
 use Rattle.theory_popov.proofs.Excess.{excess-size}
 use Rattle.theory_popov.proofs.Load.{load, load-most}
@@ -41,7 +41,7 @@ module _ (n : ℕ) (x : ℕ → ℕ → ℕ) where
 
 module _ {F : Type 0} (K : Field F) (n m size : ℕ) where
   abbrev steps : Process (Carried F)
-  steps = second-kind K n m size
+  steps = second_kind K n m size
 
   determined : (t : Carried F) (p q : Removal n (excesses K m size t.R)) → remove K m size t p ≡ remove K m size t q
   unfolding remove
@@ -79,7 +79,7 @@ module _ {F : Type 0} (K : Field F) (n m size : ℕ) where
     second-count {t = t} q y = omega (
       arith,
       iterates-count steps Fits fits-step (λ t. left K n m size t.R) falls q y,
-      total-more r n (λ a. load a (x a)) y.ascends.rank-fits (λ a l la. omega (arith, none a l la)),
+      total-more r n (λ a. load a (x a)) y.ascends.rank_fits (λ a l la. omega (arith, none a l la)),
       total-bound r ((r - 1) * size) (λ a. load a (x a)) some,
     )
       where

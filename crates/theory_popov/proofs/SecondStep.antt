@@ -20,7 +20,7 @@ use Rattle.theory_reduction.specs.Pivot.{top, value, values, pivot}
 use Rattle.theory_reduction.specs.Step.{subtract}
 use Rattle.theory_reduction.proofs.Index.{key-pivot, clash-of}
 use Rattle.theory_reduction.proofs.Pivot.{value-lead, value-null}
-use Rattle.theory_popov.specs.SecondKind.{Removal, pivot-of, excess, excesses, remover}
+use Rattle.theory_popov.specs.SecondKind.{Removal, pivot_of, excess, excesses, remover}
 use Rattle.theory_popov.specs.Tidy.{Ascending, Tidy}
 use Rattle.theory_popov.proofs.Excess.{excess-least, excess-below}
 use Rattle.theory_popov.proofs.Removing.{Removed, removed}
@@ -35,7 +35,7 @@ module _ {F : Type 0} (K : Field F) (n m size : ℕ) where
 
   -- row i has smaller degree in the pivot column of row j than row j has
   abbrev Small : (ℕ → Row F) → ℕ → ℕ → Type 0
-  Small M i j = Below K.ring (M i (pivot-of K m size (M j)).col) (pivot-of K m size (M j)).deg
+  Small M i j = Below K.ring (M i (pivot_of K m size (M j)).col) (pivot_of K m size (M j)).deg
 
   -- what is left to remove
   abbrev pub left : (ℕ → Row F) → ℕ
@@ -49,7 +49,7 @@ module _ {F : Type 0} (K : Field F) (n m size : ℕ) where
     zero-excess a j l la = omega (
       arith,
       excess-least K m size (M a) (M j) 0
-          (λ d _. value-null K m size (M a) (y.bounded a la) (A.none a l la) (term (pivot-of K m size (M j)).col d) (N.mod-lt _ columns)),
+          (λ d _. value-null K m size (M a) (y.bounded a la) (A.none a l la) (term (pivot_of K m size (M j)).col d) (N.mod-lt _ columns)),
     )
 
     -- an earlier row is small for its smaller leading term, and a later row where it has no excess
@@ -57,7 +57,7 @@ module _ {F : Type 0} (K : Field F) (n m size : ℕ) where
     unfolding degree-over-position
     small i j li lj ne none d ld = case-le (suc i) j
         (λ l.
-        let fits = A.rank-fits in
+        let fits = A.rank_fits in
         let lead-i = value-lead K m size (M i) (y.bounded i li) (A.some i (omega arith)) in
         let lead-j = value-lead K m size (M j) (y.bounded j (omega arith)) (A.some j lj) in
         lead-i.above (term (pivot m (v M j)).col d) lead-j.inside
@@ -72,17 +72,17 @@ module _ {F : Type 0} (K : Field F) (n m size : ℕ) where
       i = p.highest.at
 
       -- row k is not zero
-      pub k-some : k < r
-      k-some = case-le r k (λ l. absurd (omega (arith, zero-excess k i l p.fits, p.highest.some))) (λ l. l)
+      pub k_some : k < r
+      k_some = case-le r k (λ l. absurd (omega (arith, zero-excess k i l p.fits, p.highest.some))) (λ l. l)
 
-      pub i-fits : i < n
-      i-fits = omega (arith, p.highest.fits, p.fits)
+      pub i_fits : i < n
+      i_fits = omega (arith, p.highest.fits, p.fits)
 
       pub removed-row : Removed K m size (M k) (M i)
       removed-row =
-          let i-some = A.some i (omega (arith, p.highest.fits, k-some)) in
-          removed K m size (M k) (M i) (y.bounded k p.fits) (y.bounded i i-fits) (A.some k k-some) i-some
-          (λ e. A.apart i k p.highest.fits p.fits (clash-of i-some (A.some k k-some) e)) p.highest.some
+          let i-some = A.some i (omega (arith, p.highest.fits, k_some)) in
+          removed K m size (M k) (M i) (y.bounded k p.fits) (y.bounded i i_fits) (A.some k k_some) i-some
+          (λ e. A.apart i k p.highest.fits p.fits (clash-of i-some (A.some k k_some) e)) p.highest.some
 
       abbrev q : ℕ → F
       q = remover K m size (M k) (M i)
@@ -125,9 +125,9 @@ module _ {F : Type 0} (K : Field F) (n m size : ℕ) where
       own-less = let s = p.highest.some in omega (arith, excess-least K m size new (M i) (x M k i - 1) removed-row.own)
 
       other-less : (j : ℕ) → j < k → j ≢ i → excess K m size new (M j) ≤ x M k j + (x M k i - 1 - x M k j)
-      other-less j lj ne = excess-least K m size new (M j) _ (removed-row.other (pivot-of K m size (M j)).col _ _ (omega arith)
+      other-less j lj ne = excess-least K m size new (M j) _ (removed-row.other (pivot_of K m size (M j)).col _ _ (omega arith)
           (below_more K.ring _ _ _ (omega arith) (excess-below K m size (M k) (M j) columns (y.bounded k p.fits)))
-          (small i j i-fits (omega (arith, k-some)) (λ e. ne (sym e)) (λ l. p.done i j l p.highest.fits)))
+          (small i j i_fits (omega (arith, k_some)) (λ e. ne (sym e)) (λ l. p.done i j l p.highest.fits)))
 
       load-less : load k (x M' k) < load k (x M k)
       load-less = load-falls k (x M k) (x M' k) p.highest (omega (arith, new-excess i, own-less)) (λ j lj. elim (ℕ_discrete j i) [

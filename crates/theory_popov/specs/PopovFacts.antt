@@ -18,11 +18,11 @@ pub record PopovFacts {F : Type 0} (K : Field F) (n m size : ℕ) (A : ℕ → R
   -- U-as-A = P, V-as-P = A, U-as-V = V-as-U = 1
   pub transformed : Transformed K.ring n m A t.R t.U t.V'
   -- "U needs no degree above n(d+1)-1 and V none above d": for U the sharp bound (n-1)d
-  pub u-degrees : (i j : ℕ) → i < n → j < n → Below K.ring (t.U i j) (suc ((n - 1) * (size - 1)))
-  pub v-degrees : (i j : ℕ) → i < n → j < n → Below K.ring (t.V' i j) size
+  pub u_degrees : (i j : ℕ) → i < n → j < n → Below K.ring (t.U i j) (suc ((n - 1) * (size - 1)))
+  pub v_degrees : (i j : ℕ) → i < n → j < n → Below K.ring (t.V' i j) size
   -- the non-zero rows of P are the first, as many as those of `weak`, and that is the rank of A
-  pub rank-form : form.rank ≡ rank K n m size t.R
-  pub rank-kept : rank K n m size t.R ≡ rank K n m size weak.R
+  pub rank_form : form.rank ≡ rank K n m size t.R
+  pub rank_kept : rank K n m size t.R ≡ rank K n m size weak.R
   pub rank_is : IsRank K.ring n m A (rank K n m size t.R)
   -- "The second is at most r(r-1)(d+1), and 0 for r = 0."
-  pub second-bound : let r = rank K n m size t.R in second ≤ r * ((r - 1) * size)
+  pub second_bound : let r = rank K n m size t.R in second ≤ r * ((r - 1) * size)

@@ -13,10 +13,10 @@ Before s t = (s.deg < t.deg) ⊎ ((s.deg ≡ t.deg) × (s.col < t.col))
 
 -- P with n rows and m columns is in Popov form, `lead i` being the leading term of the pivot of row i
 pub record PopovForm {F : Type 0} (R : CommRing F) (n m : ℕ) (P : ℕ → Row F) : Type 0 where
-  pub weak-popov : WeakPopov R n m P
+  pub weak_popov : WeakPopov R n m P
   -- the first rows are not zero; "zero rows last"
   pub rank : ℕ
-  pub rank-fits : rank ≤ n
+  pub rank_fits : rank ≤ n
   pub lead : ℕ → Term
   pub pivots : (i : ℕ) → i < rank → IsPivot R m (lead i) (P i)
   pub null : (i : ℕ) → rank ≤ i → i < n → Null R m (P i)

@@ -14,5 +14,5 @@ pub record PopovRun {F : Type 0} (K : Field F) (n m size : ℕ) (A : ℕ → Row
   pub weak : Carried F
   pub first_kind : Runs K n m size first (begin K.ring A) weak
   pub reduced : Carried F
-  pub second-kind : SecondRuns K n m size second (ordered K n m size weak) reduced
+  pub second_kind : SecondRuns K n m size second (ordered K n m size weak) reduced
   pub last : scaled K m size reduced ≡ t

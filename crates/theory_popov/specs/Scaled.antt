@@ -10,16 +10,16 @@ use Rattle.theory_reduction.specs.Step.{Carried, leading}
 
 module _ {F : Type 0} (K : Field F) (m size : ℕ) where
   -- c for a row of value v > 0, and 1 for a zero row
-  abbrev pub where-some : ℕ → F → F
-  where-some zero c = K.ring.𝟙
-  where-some (suc v) c = c
+  abbrev pub some_or_one : ℕ → F → F
+  some_or_one zero c = K.ring.𝟙
+  some_or_one (suc v) c = c
 
   -- what a row is divided by, and what it is multiplied by to divide it
   abbrev pub divisor : Row F → F
-  divisor r = where-some (value K m size r) (leading K m size r)
+  divisor r = some_or_one (value K m size r) (leading K m size r)
 
   abbrev pub dividing : Row F → F
-  dividing r = where-some (value K m size r) (K.inv (leading K m size r))
+  dividing r = some_or_one (value K m size r) (K.inv (leading K m size r))
 
   -- the rows of R and U are divided, and the columns of V are multiplied
   abbrev pub scaled : Carried F → Carried F

@@ -30,14 +30,14 @@ NoRemoval n x = (a j : ℕ) → j < a → a < n → x a j ≡ 0
 
 module _ {F : Type 0} (K : Field F) (m size : ℕ) where
   -- the leading term of the pivot of r
-  abbrev pub pivot-of : Row F → Term
-  pivot-of r = pivot m (value K m size r)
+  abbrev pub pivot_of : Row F → Term
+  pivot_of r = pivot m (value K m size r)
 
   -- "the degree of row k in i's pivot column, less i's pivot degree", for the rows k and i: one more than it, and 0 where it is negative.
   -- Row i may not be a zero row, which has no pivot column; none is asked for, since zero rows stand last and a zero row k has no
   -- excess over any (`zero-excess`).
   unfoldable pub excess : Row F → Row F → ℕ
-  excess k i = top K size (k (pivot-of i).col) - (pivot-of i).deg
+  excess k i = top K size (k (pivot_of i).col) - (pivot_of i).deg
 
   -- the excesses of the rows of a matrix
   abbrev pub excesses : (ℕ → Row F) → ℕ → ℕ → ℕ
@@ -48,7 +48,7 @@ module _ {F : Type 0} (K : Field F) (m size : ℕ) where
   exponent k i = excess k i - 1
 
   abbrev pub excessive : Row F → Row F → Term
-  excessive k i = up (exponent k i) (pivot-of i)
+  excessive k i = up (exponent k i) (pivot_of i)
 
   -- "the multiple c·x^e of the row that has it […] that removes that term": c x^e
   unfoldable pub remover : Row F → Row F → ℕ → F

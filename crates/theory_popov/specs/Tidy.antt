@@ -8,7 +8,7 @@ use Rattle.theory_reduction.specs.Pair.{NoPair}
 
 -- of n rows of the values v the first r are not zero, and their values ascend; no two have one pivot index
 pub record Ascending (n m r : ℕ) (v : ℕ → ℕ) : Type 0 where
-  pub rank-fits : r ≤ n
+  pub rank_fits : r ≤ n
   pub some : (i : ℕ) → i < r → 0 < v i
   pub none : (i : ℕ) → r ≤ i → i < n → v i ≡ 0
   pub ascending : (i j : ℕ) → i < j → j < r → v i < v j

@@ -23,6 +23,6 @@ module _ {F : Type 0} (K : Field F) (n m size : ℕ) (A : ℕ → Row F) (u : Ca
 
   pub comb-led : Led K (degree-over-position m) n (comb K.ring n q u.V') u.R
   comb-led = lead-theorem K (degree-over-position m) n _ u.R
-      (comb-polynomial K.ring n n q u.V' p h.transformed.inverse.right-polynomial)
+      (comb-polynomial K.ring n n q u.V' p h.transformed.inverse.right_polynomial)
       (λ i l. value-known K m size (u.R i) (h.bounded i l))
       (no-pair-apart K n m size u.R h.bounded h.done)

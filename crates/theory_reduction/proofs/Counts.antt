@@ -14,8 +14,8 @@ use Rattle.theory_lists.specs.Total.{total}
 use Rattle.theory_reduction.specs.Pivot.{values, pivot, index}
 use Rattle.theory_reduction.specs.Pair.{StepRows}
 use Rattle.theory_reduction.specs.Process.{halt, more}
-use Rattle.theory_reduction.specs.Step.{Carried, reduce-row}
-use Rattle.theory_reduction.specs.Run.{advance-pair, Runs}
+use Rattle.theory_reduction.specs.Step.{Carried, reduce_row}
+use Rattle.theory_reduction.specs.Run.{advance_pair, Runs}
 use Rattle.theory_reduction.specs.State.{state}
 use Rattle.theory_reduction.specs.Rank.{sign, rank}
 use Rattle.theory_lists.proofs.Total.{total-le, total-lt, total-bound, total-scale}
@@ -67,20 +67,20 @@ module _ {F : Type 0} (K : Field F) (n m size : ℕ) where
     same : index m (v M at) ≡ x
 
   -- no pivot index is lost: that of row l is also that of row k
-  step-uses : (M : ℕ → Row F) (l k : ℕ) → Lowered K n m size M l k → (x : ℕ) → Uses M x → Uses (reduce-row K m size l k M) x
+  step-uses : (M : ℕ → Row F) (l k : ℕ) → Lowered K n m size M l k → (x : ℕ) → Uses M x → Uses (reduce_row K m size l k M) x
   step-uses M l k w x y = elim (ℕ_discrete y.at l) [
-    | yes e ↦ kept k g.k-fits (λ z. g.apart (sym z)) (sym g.clash.same ∙ ap (λ i. index m (v M i)) (sym e) ∙ y.same)
+    | yes e ↦ kept k g.k_fits (λ z. g.apart (sym z)) (sym g.clash.same ∙ ap (λ i. index m (v M i)) (sym e) ∙ y.same)
     | no ne ↦ kept y.at y.fits ne y.same
   ]
     where
       g : StepRows n m (v M) l k
       g = w.reducing
 
-      kept : (i : ℕ) → i < n → i ≢ l → index m (v M i) ≡ x → Uses (reduce-row K m size l k M) x
+      kept : (i : ℕ) → i < n → i ≢ l → index m (v M i) ≡ x → Uses (reduce_row K m size l k M) x
       kept i li ne e = record { at = i; fits = li; same = rw (w.others i ne) e }
 
   runs-uses : {c : ℕ} {t u : Carried F} → Runs K n m size c t u → AllBounded K.ring n m size t.R → (x : ℕ) → Uses t.R x → Uses u.R x
-  unfolding advance-pair
+  unfolding advance_pair
   runs-uses (halt h) b x y = y
   runs-uses (more {x = t} p r) b x y = let w = pair-lowered K n m size t b p in runs-uses r w.bounded x (step-uses t.R _ _ w x y)
 
@@ -88,26 +88,26 @@ module _ {F : Type 0} (K : Field F) (n m size : ℕ) where
   measured : (w : ℕ → ℕ) {c : ℕ} {t u : Carried F} → Runs K n m size c t u → AllBounded K.ring n m size t.R
       → ((x y : ℕ) → y ≤ x → w y ≤ w x) → ((x y : ℕ) → Uses u.R (index m x) → y < x → w y < w x)
       → c + total n (λ i. w (v u.R i)) ≤ total n (λ i. w (v t.R i))
-  unfolding advance-pair
+  unfolding advance_pair
   measured w (halt h) b mono drop = omega arith
   measured w (more {x = t} p r) b mono drop =
       let y = pair-lowered K n m size t b p in
-      let used = runs-uses (more p r) b _ (record { at = _; fits = y.reducing.l-fits; same = refl }) in
+      let used = runs-uses (more p r) b _ (record { at = _; fits = y.reducing.l_fits; same = refl }) in
       omega (
         arith,
-        total-lt n _ _ _ y.reducing.l-fits (drop _ _ used y.lower) (λ i _. mono _ _ (value-le K n m size t.R _ _ y i)),
+        total-lt n _ _ _ y.reducing.l_fits (drop _ _ used y.lower) (λ i _. mono _ _ (value-le K n m size t.R _ _ y i)),
         measured w r y.bounded mono drop,
       )
 
   module _ {c : ℕ} {t u : Carried F} (r : Runs K n m size c t u) (b : AllBounded K.ring n m size t.R) where
     -- "the count is at most the state of A less the state of R"
-    pub count-state : c + state K n m size u.R ≤ state K n m size t.R
-    count-state = simp (← value-is) (measured (λ x. x) r b (λ x y l. l) (λ x y _ l. l))
+    pub count_state : c + state K n m size u.R ≤ state K n m size t.R
+    count_state = simp (← value-is) (measured (λ x. x) r b (λ x y l. l) (λ x y _ l. l))
 
     -- "With rank r the count is at most n·r·(d+1)": a row is measured by
     -- the number of terms up to its value in the pivot columns of R
-    pub count-rank : 0 < m → c ≤ n * (rank K n m size u.R * size)
-    count-rank pos =
+    pub count_rank : 0 < m → c ≤ n * (rank K n m size u.R * size)
+    count_rank pos =
         omega (
           arith,
           measured weight r b (λ x y l. total-le n _ _ (λ i _. hits-mono m pos _ x y l)) drop,

@@ -40,10 +40,10 @@ module _ {F : Type 0} (K : Field F) (n m size : ℕ) where
   S = series K.ring
 
   abbrev D : (ℕ → Row F) → ℕ → ℕ
-  D = Specs.pivot-degree K n m size
+  D = Specs.pivot_degree K n m size
 
-  abbrev spent-since : (ℕ → Row F) → Carried F → ℕ
-  spent-since = Specs.spent-since K n m size
+  abbrev spent_since : (ℕ → Row F) → Carried F → ℕ
+  spent_since = Specs.spent_since K n m size
 
   abbrev Narrow : (ℕ → Row F) → Carried F → Type 0
   Narrow = Specs.Narrow K n m size
@@ -52,7 +52,7 @@ module _ {F : Type 0} (K : Field F) (n m size : ℕ) where
   degrees-most M b i li = omega (arith, height_bound m size _ (value-bound K m size (M i) (b i li)))
 
   pub narrow_start : (A : ℕ → Row F) → Narrow A (begin K.ring A)
-  narrow_start A = record { less = omega arith; u-bound = λ i j _ _. one i j _ (λ e. omega (arith, e)); v-bound = λ i j _ _. one i j _ (λ e. omega (arith, e)) }
+  narrow_start A = record { less = omega arith; u_bound = λ i j _ _. one i j _ (λ e. omega (arith, e)); v_bound = λ i j _ _. one i j _ (λ e. omega (arith, e)) }
     where
       one : (i j b : ℕ) → (D A i ≡ D A j → 1 ≤ b) → Below K.ring (identity S i j) b
       one i j b h = elim (ℕ_discrete i j) [
@@ -69,8 +69,8 @@ module _ {F : Type 0} (K : Field F) (n m size : ℕ) where
   -- q times row k is taken from row l of M: q has no degree above e, x^e times row k is no higher than row l, and row l gets no higher
   pub record NoHigher (M : ℕ → Row F) (l k : ℕ) (q : ℕ → F) : Type 0 where
     pub e : ℕ
-    pub l-fits : l < n
-    pub k-fits : k < n
+    pub l_fits : l < n
+    pub k_fits : k < n
     pub below : Below K.ring q (suc e)
     pub room : e + D M k ≤ D M l
     pub lower : D (subtract K.ring l k q M) l ≤ D M l
@@ -89,7 +89,7 @@ module _ {F : Type 0} (K : Field F) (n m size : ℕ) where
     totals-fall = total-le n (D M') (D M) (λ i _. falls i)
 
     change : total n (D M') + D M l ≡ total n (D M) + D M' l
-    change = total-change n l (D M') (D M) y.l-fits (λ i _ ne. others i ne)
+    change = total-change n l (D M') (D M) y.l_fits (λ i _ ne. others i ne)
 
     -- what row l loses, all rows have lost, of a number E that they had together at most
     module _ (E : ℕ) (less : total n (D M) ≤ E) where
@@ -103,8 +103,8 @@ module _ {F : Type 0} (K : Field F) (n m size : ℕ) where
       pub column-kept : (X : ℕ → Row F) (j c : ℕ) → ((i : ℕ) → i < n → Below K.ring (X i j) (suc (D M i + (E - total n (D M))) - c))
           → (i : ℕ) → i < n → Below K.ring (subtract K.ring l k q X i j) (suc (D M' i + (E - total n (D M'))) - c)
       column-kept X j c h i li = elim (ℕ_discrete i l) [
-        | yes w ↦ rw (w, same, setrow-same X l _) (below-add K.ring _ _ _ (h l y.l-fits)
-            (below-mul-within K.ring _ (X k j) y.e _ _ (below-neg K.ring q _ y.below) (h k y.k-fits)
+        | yes w ↦ rw (w, same, setrow-same X l _) (below-add K.ring _ _ _ (h l y.l_fits)
+            (below-mul-within K.ring _ (X k j) y.e _ _ (below-neg K.ring q _ y.below) (h k y.k_fits)
             (raised y.e _ _ (E - total n (D M)) c y.room)))
         | no ne ↦ rw (setrow-other X l _ i ne, others i ne) (below_more K.ring (X i j) _ _ (widened (D M i) _ _ c grows) (h i li))
       ]
@@ -113,10 +113,10 @@ module _ {F : Type 0} (K : Field F) (n m size : ℕ) where
   pub narrow-carry : (A : ℕ → Row F) (t : Carried F) (l k : ℕ) (q : ℕ → F) → NoHigher t.R l k q → Narrow A t → Narrow A (carry K.ring l k q t)
   narrow-carry A t l k q y x = record {
     less = omega (arith, x.less, totals-fall y);
-    u-bound = λ i j li lj. column-kept y (total n (D A)) x.less t.U j (D A j) (λ i li. x.u-bound i j li lj) i li;
-    v-bound = λ i j li lj. below_more K.ring (t'.V' i j) (suc (D A i) - D t.R j) _ (omega (arith, falls y j)) (elim (ℕ_discrete j k) [
+    u_bound = λ i j li lj. column-kept y (total n (D A)) x.less t.U j (D A j) (λ i li. x.u_bound i j li lj) i li;
+    v_bound = λ i j li lj. below_more K.ring (t'.V' i j) (suc (D A i) - D t.R j) _ (omega (arith, falls y j)) (elim (ℕ_discrete j k) [
       | yes w ↦ rw w (v-own i li)
-      | no ne ↦ rw (setrow-other (transpose t.V') k _ j ne) (x.v-bound i j li lj)
+      | no ne ↦ rw (setrow-other (transpose t.V') k _ j ne) (x.v_bound i j li lj)
     ]);
   }
     where
@@ -124,17 +124,17 @@ module _ {F : Type 0} (K : Field F) (n m size : ℕ) where
       t' = carry K.ring l k q t
 
       v-own : (i : ℕ) → i < n → Below K.ring (t'.V' i k) (suc (D A i) - D t.R k)
-      v-own i li = rw setrow-same (below-add K.ring _ _ _ (x.v-bound i k li y.k-fits)
-          (below-mul-within K.ring q (t.V' i l) y.e _ _ y.below (x.v-bound i l li y.l-fits) (λ some. omega (arith, y.room))))
+      v-own i li = rw setrow-same (below-add K.ring _ _ _ (x.v_bound i k li y.k_fits)
+          (below-mul-within K.ring q (t.V' i l) y.e _ _ y.below (x.v_bound i l li y.l_fits) (λ some. omega (arith, y.room))))
 
   -- a step of the reduction
   pub step-no-higher : (M : ℕ → Row F) (l k : ℕ) → AllBounded K.ring n m size M → Lowered K n m size M l k
       → NoHigher M l k (factor K m size (M l) (M k))
   step-no-higher M l k b w = let g = w.reducing in record {
     e = height m (value K m size (M l)) - height m (value K m size (M k));
-    l-fits = g.l-fits;
-    k-fits = g.k-fits;
-    below = (factor-degree K m size (M l) (M k) (b l g.l-fits) (b k g.k-fits) g.clash g.degrees).below;
+    l_fits = g.l_fits;
+    k_fits = g.k_fits;
+    below = (factor-degree K m size (M l) (M k) (b l g.l_fits) (b k g.k_fits) g.clash g.degrees).below;
     room = omega (arith, g.degrees, height-pos m _ (clash-second g.clash));
     lower = omega (arith, height-mono m _ _ (N.le_of_lt w.lower));
   }
@@ -148,13 +148,13 @@ module _ {F : Type 0} (K : Field F) (n m size : ℕ) where
 
   module _ (A : ℕ → Row F) (t : Carried F) (b : AllBounded K.ring n m size A) (x : Narrow A t) where
     -- "Sharp is (n-1)d": with n - 1 rows of A that have d each
-    pub u-degrees : (i j : ℕ) → i < n → j < n → Below K.ring (t.U i j) (suc ((n - 1) * (size - 1)))
-    u-degrees i j li lj = below_more K.ring (t.U i j) _ _
-        (omega (arith, x.less, total-one n i (D t.R) li, total-others n j (size - 1) (D A) lj (degrees-most A b))) (x.u-bound i j li lj)
+    pub u_degrees : (i j : ℕ) → i < n → j < n → Below K.ring (t.U i j) (suc ((n - 1) * (size - 1)))
+    u_degrees i j li lj = below_more K.ring (t.U i j) _ _
+        (omega (arith, x.less, total-one n i (D t.R) li, total-others n j (size - 1) (D A) lj (degrees-most A b))) (x.u_bound i j li lj)
 
     -- "U needs no degree above n(d+1)-1 and V none above d"
     pub u-fits : 0 < size → (i j : ℕ) → i < n → j < n → Below K.ring (t.U i j) (n * size)
-    u-fits places i j li lj = below_more K.ring (t.U i j) _ (n * size) (u-within n size (omega (arith, li)) places) (u-degrees i j li lj)
+    u-fits places i j li lj = below_more K.ring (t.U i j) _ (n * size) (u-within n size (omega (arith, li)) places) (u_degrees i j li lj)
 
-    pub v-degrees : 0 < size → (i j : ℕ) → i < n → j < n → Below K.ring (t.V' i j) size
-    v-degrees places i j li lj = below_more K.ring (t.V' i j) _ size (omega (arith, degrees-most A b i li)) (x.v-bound i j li lj)
+    pub v_degrees : 0 < size → (i j : ℕ) → i < n → j < n → Below K.ring (t.V' i j) size
+    v_degrees places i j li lj = below_more K.ring (t.V' i j) _ size (omega (arith, degrees-most A b i li)) (x.v_bound i j li lj)

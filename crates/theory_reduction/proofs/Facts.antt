@@ -8,8 +8,8 @@ use Rattle.theory_reduction.specs.Run.{Runs}
 use Rattle.theory_reduction.specs.ReductionFacts.{ReductionFacts}
 use Rattle.theory_reduction.proofs.Ending.{reach}
 use Rattle.theory_reduction.proofs.WeakPopov.{weak-popov-iff}
-use Rattle.theory_reduction.proofs.Counts.{count-state, count-rank}
-use Rattle.theory_reduction.proofs.Degrees.{runs-narrow, u-degrees, v-degrees}
+use Rattle.theory_reduction.proofs.Counts.{count_state, count_rank}
+use Rattle.theory_reduction.proofs.Degrees.{runs-narrow, u_degrees, v_degrees}
 use Rattle.theory_reduction.proofs.Transforms.{runs-ended}
 use Rattle.theory_reduction.proofs.Listed.{runs-lower, listed}
 use Rattle.theory_reduction.proofs.Largest.{rank_is}
@@ -22,13 +22,13 @@ module _ {F : Type 0} (K : Field F) (n m size : ℕ) (A : ℕ → Row F) (column
       let low = runs-lower K n m size A r b in
       let narrow = runs-narrow K n m size A r b in
       record {
-        weak-popov = (weak-popov-iff K n m size t.R h.bounded).0 h.done;
+        weak_popov = (weak-popov-iff K n m size t.R h.bounded).0 h.done;
         bounded = h.bounded;
         transformed = h.transformed;
-        u-degrees = u-degrees K n m size A t b narrow;
-        v-degrees = v-degrees K n m size A t b narrow places;
-        count-state = count-state K n m size r b;
-        count-rank = count-rank K n m size r b columns;
+        u_degrees = u_degrees K n m size A t b narrow;
+        v_degrees = v_degrees K n m size A t b narrow places;
+        count_state = count_state K n m size r b;
+        count_rank = count_rank K n m size r b columns;
         rank_is = rank_is K n m size A t b h low;
         listed = listed K n m size A t h low;
       }

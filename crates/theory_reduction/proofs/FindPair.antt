@@ -55,7 +55,7 @@ module _ (n m : ℕ) (v : ℕ → ℕ) where
         ordered = x.holds.holds.0;
         fits = x.holds.fits;
         clash = x.holds.holds.1;
-        lowest-a = λ i j l. no-partner i (x.least i l) j;
-        lowest-b = λ j l p c. x.holds.least j p (l, c);
+        lowest_a = λ i j l. no-partner i (x.least i l) j;
+        lowest_b = λ j l p c. x.holds.least j p (l, c);
       })
       go (inr h) = inr (λ i j l lj. no-partner i (h i (omega arith)) j l lj)

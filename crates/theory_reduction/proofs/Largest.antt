@@ -78,7 +78,7 @@ module _ {F : Type 0} (K : Field F) (n m size : ℕ) (A : ℕ → Row F) (u : Ca
 
     q-polynomial : (i : ℕ) → i < n → (j : ℕ) → j < n → IsPolynomial K.ring (q i j)
     q-polynomial i li j lj = keep_all K.ring (IsPolynomial K.ring) (polynomial-zero K.ring) (z j) (t.U i j)
-        (th.transformed.inverse.left-polynomial i j li lj)
+        (th.transformed.inverse.left_polynomial i j li lj)
 
     row : (i : ℕ) → i < n → (s : Term) → s.col < m → coef (comb K.ring n (q i) A) s ≡ coef (t.R i) s
     unfolding comb product

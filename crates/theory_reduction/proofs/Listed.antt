@@ -43,7 +43,7 @@ module _ {F : Type 0} (K : Field F) (n m size : ℕ) where
       | no ne ↦ rw (setrow-other t.U l _ i ne) (x.off i j lij lj)
     ];
     diagonal = λ i li. elim (ℕ_discrete i l) [
-      | yes e ↦ rw e (own l (omega arith) w.reducing.l-fits ∙ x.diagonal l w.reducing.l-fits)
+      | yes e ↦ rw e (own l (omega arith) w.reducing.l_fits ∙ x.diagonal l w.reducing.l_fits)
       | no ne ↦ rw (setrow-other t.U l _ i ne) (x.diagonal i li)
     ];
   }
@@ -91,7 +91,7 @@ module _ {F : Type 0} (K : Field F) (n m size : ℕ) where
       -- q = y U
       back : (j : ℕ) → j < n → q j ≡ comb K.ring n y u.U j
       back j l = sym (ap (λ r. r j) (comb-comb K.ring n q u.V' u.U)
-          ∙ comb-same K.ring n n q _ (identity (series K.ring)) h.transformed.inverse.right-left j l
+          ∙ comb-same K.ring n n q _ (identity (series K.ring)) h.transformed.inverse.right_left j l
           ∙ comb-identity K.ring n q j l)
 
       -- y R = q A = 0, so no part of y R has a leading term

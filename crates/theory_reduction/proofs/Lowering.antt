@@ -17,7 +17,7 @@ use Rattle.theory_lattice.proofs.DegreeOverPosition.{degree-over-position}
 use Rattle.theory_lattice.proofs.Lead.{cancel-under}
 use Rattle.theory_reduction.specs.Pivot.{value, values, pivot, height, Clash}
 use Rattle.theory_reduction.specs.Pair.{StepRows}
-use Rattle.theory_reduction.specs.Step.{factor, reduce-row}
+use Rattle.theory_reduction.specs.Step.{factor, reduce_row}
 use Rattle.theory_reduction.proofs.Index.{key-pivot, height-some, height_bound, clash-first, clash-second, clash-columns}
 use Rattle.theory_reduction.proofs.Cancelling.{quotient-degree, multiple-lead, multiple-cancels}
 use Rattle.theory_reduction.proofs.Pivot.{value-bound, value-lead, under-value, lead-bounded}
@@ -82,7 +82,7 @@ module _ {F : Type 0} (K : Field F) (m size : ℕ) where
 
 module _ {F : Type 0} (K : Field F) (n m size : ℕ) (M : ℕ → Row F) (l k : ℕ) where
   abbrev M' : ℕ → Row F
-  M' = reduce-row K m size l k M
+  M' = reduce_row K m size l k M
 
   -- what the step with the rows l and k does
   pub record Lowered : Type 0 where
@@ -96,10 +96,10 @@ module _ {F : Type 0} (K : Field F) (n m size : ℕ) (M : ℕ → Row F) (l k : 
   lowered b r = record {
     reducing = r;
     bounded = λ i li. elim (ℕ_discrete i l) [
-      | yes e ↦ rw (e, setrow-same) (difference-bounded K m size (M l) (M k) (b l r.l-fits) (b k r.k-fits) r.clash r.degrees)
+      | yes e ↦ rw (e, setrow-same) (difference-bounded K m size (M l) (M k) (b l r.l_fits) (b k r.k_fits) r.clash r.degrees)
       | no ne ↦ rw (setrow-other M l _ i ne) (b i li)
     ];
-    lower = rw setrow-same (difference-value K m size (M l) (M k) (b l r.l-fits) (b k r.k-fits) r.clash r.degrees);
+    lower = rw setrow-same (difference-value K m size (M l) (M k) (b l r.l_fits) (b k r.k_fits) r.clash r.degrees);
     others = setrow-other M l _;
   }
 

@@ -5,7 +5,7 @@ use native.Mathlib.Omega.{arith}
 use native.Mathlib.Decide.{dec_lt}
 use Rattle.theory_algebra.proofs.Cases.{neither}
 use Rattle.theory_reduction.specs.Pivot.{height, Clash}
-use Rattle.theory_reduction.specs.Pair.{Pair, NoPair, ordered-by, target, StepRows}
+use Rattle.theory_reduction.specs.Pair.{Pair, NoPair, ordered_by, target, StepRows}
 use Rattle.theory_reduction.proofs.Index.{clash-turned}
 
 module _ (n m : ℕ) (v : ℕ → ℕ) where
@@ -18,31 +18,31 @@ module _ (n m : ℕ) (v : ℕ → ℕ) where
       (e, neither p.b q.b (second p q e) (second q p (omega arith)))
     where
       first : (p q : Pair n m v) → ¬ (p.a < q.a)
-      first p q l = q.lowest-a p.a p.b l p.ordered p.fits p.clash
+      first p q l = q.lowest_a p.a p.b l p.ordered p.fits p.clash
 
       second : (p q : Pair n m v) → p.a ≡ q.a → ¬ (p.b < q.b)
-      second p q e l = q.lowest-b p.b (let o = p.ordered in omega arith) l (subst (λ x. Clash m (v x) (v p.b)) e p.clash)
+      second p q e l = q.lowest_b p.b (let o = p.ordered in omega arith) l (subst (λ x. Clash m (v x) (v p.b)) e p.clash)
 
   pub target-unique : (p q : Pair n m v) → target m v p.a p.b ≡ target m v q.a q.b
   target-unique p q = let (e, f) = pair-unique p q in ap₂ (target m v) e f
 
   pub target-rows : (p : Pair n m v) → let (l, k) = target m v p.a p.b in StepRows n m v l k
-  unfolding target ordered-by
+  unfolding target ordered_by
   target-rows p = go (dec_lt (height m (v p.b)) (height m (v p.a))) p.ordered p.fits
     where
       go : (d : Dec (height m (v p.b) < height m (v p.a))) → p.a < p.b → p.b < n
-          → StepRows n m v (ordered-by d p.a p.b).0 (ordered-by d p.a p.b).1
+          → StepRows n m v (ordered_by d p.a p.b).0 (ordered_by d p.a p.b).1
       go (yes h) o f = record {
-        l-fits = omega arith;
-        k-fits = f;
+        l_fits = omega arith;
+        k_fits = f;
         apart = omega arith;
         clash = p.clash;
         degrees = omega arith;
         tie = λ e. absurd (omega arith);
       }
       go (no h) o f = record {
-        l-fits = f;
-        k-fits = omega arith;
+        l_fits = f;
+        k_fits = omega arith;
         apart = omega arith;
         clash = clash-turned p.clash;
         degrees = omega arith;
@@ -73,8 +73,8 @@ module _ (n m : ℕ) (v v' : ℕ → ℕ) (e : (i : ℕ) → i < n → v i ≡ v
           ordered = o;
           fits = f;
           clash = rw (← e q.a la, ← e q.b f) q.clash;
-          lowest-a = λ i j l lj s c. q.lowest-a i j l lj s (clash-back i j (omega arith) s c);
-          lowest-b = λ j l s c. q.lowest-b j l s (clash-back q.a j la (omega arith) c);
+          lowest_a = λ i j l lj s c. q.lowest_a i j l lj s (clash-back i j (omega arith) s c);
+          lowest_b = λ j l s c. q.lowest_b j l s (clash-back q.a j la (omega arith) c);
         },
-        ap₂ (λ (y z : ℕ). ordered-by (dec_lt (height m z) (height m y)) q.a q.b) (sym (e q.a la)) (sym (e q.b f)) ∙ is,
+        ap₂ (λ (y z : ℕ). ordered_by (dec_lt (height m z) (height m y)) q.a q.b) (sym (e q.a la)) (sym (e q.b f)) ∙ is,
       )

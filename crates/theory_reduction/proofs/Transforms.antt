@@ -24,8 +24,8 @@ module _ {F : Type 0} (K : Field F) (n m size : ℕ) (A : ℕ → Row F) where
       → let u = advance K m size l k t in Transformed K.ring n m A u.R u.U u.V'
   step-transformed t l k b w =
       let x = w.reducing in
-      let d = factor-degree K m size (t.R l) (t.R k) (b l x.l-fits) (b k x.k-fits) x.clash x.degrees in
-      subtract-transformed K.ring n m A t.R t.U t.V' l k _ (_, d.below) x.l-fits x.k-fits x.apart
+      let d = factor-degree K m size (t.R l) (t.R k) (b l x.l_fits) (b k x.k_fits) x.clash x.degrees in
+      subtract-transformed K.ring n m A t.R t.U t.V' l k _ (_, d.below) x.l_fits x.k_fits x.apart
 
   pub runs-ended : {c : ℕ} {t : Carried F} → Runs K n m size c (begin K.ring A) t → AllBounded K.ring n m size A → Ended t
   runs-ended r b =

@@ -12,16 +12,16 @@ use Rattle.theory_reduction.specs.Rank.{Independent, IsRank, rank}
 
 -- t is reached from A after `count` steps
 pub record ReductionFacts {F : Type 0} (K : Field F) (n m size : ℕ) (A : ℕ → Row F) (count : ℕ) (t : Carried F) : Type 0 where
-  pub weak-popov : WeakPopov K.ring n m t.R
+  pub weak_popov : WeakPopov K.ring n m t.R
   pub bounded : AllBounded K.ring n m size t.R
   -- U-as-A = R, V-as-R = A, U-as-V = V-as-U = 1
   pub transformed : Transformed K.ring n m A t.R t.U t.V'
   -- "U needs no degree above n(d+1)-1 and V none above d": for U the sharp bound (n-1)d
-  pub u-degrees : (i j : ℕ) → i < n → j < n → Below K.ring (t.U i j) (suc ((n - 1) * (size - 1)))
-  pub v-degrees : (i j : ℕ) → i < n → j < n → Below K.ring (t.V' i j) size
+  pub u_degrees : (i j : ℕ) → i < n → j < n → Below K.ring (t.U i j) (suc ((n - 1) * (size - 1)))
+  pub v_degrees : (i j : ℕ) → i < n → j < n → Below K.ring (t.V' i j) size
   -- "the count is at most the state of A less the state of R. With rank r the count is at most n·r·(d+1)."
-  pub count-state : count + state K n m size t.R ≤ state K n m size A
-  pub count-rank : count ≤ n * (rank K n m size t.R * size)
+  pub count_state : count + state K n m size t.R ≤ state K n m size A
+  pub count_rank : count ≤ n * (rank K n m size t.R * size)
   -- "That this is the rank of A […] is proved."
   pub rank_is : IsRank K.ring n m A (rank K n m size t.R)
   -- "the independent rows of A, as the numbers of the rows that are not zero in R"

@@ -43,8 +43,8 @@ module _ {F : Type 0} (K : Field F) (m size : ℕ) where
   factor l k = mono K.ring (K.ring.mul (leading l) (K.inv (leading k))) (height m (value K m size l) - height m (value K m size k))
 
   -- "Subtract c·x^e times row k from row l."
-  abbrev pub reduce-row : ℕ → ℕ → (ℕ → Row F) → ℕ → Row F
-  reduce-row l k M = subtract K.ring l k (factor (M l) (M k)) M
+  abbrev pub reduce_row : ℕ → ℕ → (ℕ → Row F) → ℕ → Row F
+  reduce_row l k M = subtract K.ring l k (factor (M l) (M k)) M
 
   -- the same with the transform and its inverse
   abbrev pub advance : ℕ → ℕ → Carried F → Carried F

@@ -4,7 +4,7 @@ use Prim.Native.Nat.{ℕ, zero, suc, ◌-◌, ◌≤◌, ◌<◌, zero-le}
 use native.Mathlib.Omega.{arith}
 use native.Mathlib.Nat as N
 use Rattle.theory_algebra.specs.Ring.{CommRing}
-use Rattle.theory_algebra.specs.Cases.{if-equal}
+use Rattle.theory_algebra.specs.Cases.{if_equal}
 use Rattle.theory_algebra.specs.Sum.{sum}
 use Rattle.theory_algebra.specs.Series.{◌+ₛ◌, ◌*ₛ◌, mono, const}
 use Rattle.theory_algebra.proofs.Ring as Ring
@@ -33,7 +33,7 @@ module _ {F : Type 0} (R : CommRing F) where
 
   pub neg-mono : (c : F) (d : ℕ) → (series R).neg (mono R c d) ≡ mono R (neg c) d
   unfolding mono
-  neg-mono c d = fun_ext (λ k. neg-at (mono R c d) k ∙ if-equal-ap neg k d c 𝟘 ∙ ap (if-equal k d (neg c)) (Ring.neg-zero R))
+  neg-mono c d = fun_ext (λ k. neg-at (mono R c d) k ∙ if-equal-ap neg k d c 𝟘 ∙ ap (if_equal k d (neg c)) (Ring.neg-zero R))
 
   pub zero-at : (k : ℕ) → (series R).𝟘 k ≡ 𝟘
   unfolding series

@@ -6,8 +6,8 @@ use Rattle.theory_algebra.specs.Residue.{Zp, of, plus, times, opposite, inverse}
 use Rattle.theory_algebra.proofs.Residue as Laws
 
 -- the field Z/p: its operations, and the laws that they are proved to have
-unfoldable pub zp-field : (p : ℕ) → Prime p → Field (Zp p)
-zp-field p P = record {
+unfoldable pub zp_field : (p : ℕ) → Prime p → Field (Zp p)
+zp_field p P = record {
   ring = let some = Laws.positive p P in record {
     add = plus p some;
     mul = times p some;

@@ -13,7 +13,7 @@ use Rattle.theory_algebra.specs.Residue.{Zp}
 use Rattle.theory_algebra.specs.Series.{const}
 use Rattle.theory_algebra.proofs.Ring as Ring
 use Rattle.theory_algebra.proofs.Matrix.{setrow-same, setrow-other}
-use Rattle.theory_rings.specs.PrimeField.{zp-field}
+use Rattle.theory_rings.specs.PrimeField.{zp_field}
 use Rattle.theory_rings.proofs.PrimeField.{field-mul, field-one}
 use Rattle.theory_algebra.proofs.Residue.{zp-path}
 use Rattle.theory_rings.specs.Series.{series}
@@ -24,7 +24,7 @@ use Rattle.matrix_buffers.proofs.Scaled.{held-row-scaled, held-column-scaled}
 use Rattle.theory_reduction.specs.Pivot.{index}
 use Rattle.theory_reduction.specs.Step.{Carried, leading}
 use Rattle.theory_reduction.proofs.Index.{value-is}
-use Rattle.theory_popov.specs.Scaled.{where-some, divisor, dividing, scaled}
+use Rattle.theory_popov.specs.Scaled.{some_or_one, divisor, dividing, scaled}
 use Rattle.theory_popov.proofs.Scaling.{inverse-is}
 use Rattle.matrix_pivots.specs.Pivot.{values_of, zero_row, index_at, degree_at}
 use Rattle.matrix_pivots.specs.declared.pivot.Pivot.{Pivot}
@@ -82,8 +82,8 @@ module _ {F : Type 0} (K : Field F) (m w : ℕ) (t : Carried F) where
 
 -- all of them
 held_all : {p n m w : ℕ} {r u v : List ℕ} (P : Prime p) (t : Carried (Zp p))
-    → Holding p n m w r u v (partly (zp-field p P) m w t n) → Holding p n m w r u v (scaled (zp-field p P) m w t)
-held_all {p} {n} {m} {w} P t h = let K = zp-field p P in record {
+    → Holding p n m w r u v (partly (zp_field p P) m w t n) → Holding p n m w r u v (scaled (zp_field p P) m w t)
+held_all {p} {n} {m} {w} P t h = let K = zp_field p P in record {
   R = held-matrix-same (by_rows n m w) p (λ i j li _. first-dilated (S K m w t) (inverses K m w t) t.R n i j li) h.R;
   U = held-matrix-same (by_rows n n (n * w)) p (λ i j li _. first-dilated (S K m w t) (inverses K m w t) t.U n i j li) h.U;
   V' = held-matrix-same (by_rows n n w) p (λ i j _ lj. first-dilated (S K m w t) (divisors K m w t) (transpose t.V') n j i lj) h.V';
@@ -92,17 +92,17 @@ held_all {p} {n} {m} {w} P t h = let K = zp-field p P in record {
 -- at the loop's head
 pub record Dividing (p n m w : ℕ) (r₀ u₀ v₀ r u v : List ℕ) (i : ℕ) : Type 0 where
   pub most : i ≤ n
-  pub held : (P : Prime p) (t : Carried (Zp p)) → Holding p n m w r₀ u₀ v₀ t → Holding p n m w r u v (partly (zp-field p P) m w t i)
+  pub held : (P : Prime p) (t : Carried (Zp p)) → Holding p n m w r₀ u₀ v₀ t → Holding p n m w r u v (partly (zp_field p P) m w t i)
 
 -- the number of what a row is divided by, from its pivot index
 number_is : (p : ℕ) (P : Prime p) (m w v : ℕ) (a : Zp p) (x : ℕ) → (0 < v → a.val ≡ x)
-    → (where-some (zp-field p P) m w v a).val ≡ where_some (index m v) x
+    → (some_or_one (zp_field p P) m w v a).val ≡ where_some (index m v) x
 unfolding index
 number_is p P m w zero a x h = field-one p P
 number_is p P m w (suc v) a x h = h (omega arith)
 
 module _ {p reciprocal n m w : ℕ} {r₀ u₀ v₀ : List ℕ} {pivots : List Pivot} (asked : MonicAsked p reciprocal n m w r₀ u₀ v₀ pivots) where
-  open asked use {ready, prime, bounds, holding, pivots-are}
+  open asked use {ready, prime, bounds, holding, pivots_are}
 
   pub dividing-start : Dividing p n m w r₀ u₀ v₀ r₀ u₀ v₀ 0
   dividing-start = record { most = omega arith; held = λ P t h. h }
@@ -111,7 +111,7 @@ module _ {p reciprocal n m w : ℕ} {r₀ u₀ v₀ : List ℕ} {pivots : List P
   dividing-all inv = record { by = λ P t h. held_all P t (inv.held P t h) }
 
   module _ {r u v : List ℕ} {i : ℕ} (inv : Dividing p n m w r₀ u₀ v₀ r u v i) where
-    here : Holding p n m w r u v (partly (zp-field p prime) m w asked.t i)
+    here : Holding p n m w r u v (partly (zp_field p prime) m w asked.t i)
     here = inv.held prime asked.t holding
 
     pub lengths : (length r ≡ length r₀) × (length u ≡ length u₀) × (length v ≡ length v₀)
@@ -124,14 +124,14 @@ module _ {p reciprocal n m w : ℕ} {r₀ u₀ v₀ : List ℕ} {pivots : List P
       -- the leading coefficient of row i is as it was
       leading-kept : PivotAsked m w i pivot r₀ → leading_at m w r i pivot ≡ leading_at m w r₀ i pivot
       leading-kept x =
-          let col : index_at pivots i - 1 < m = omega (arith, x.leading.column, x.leading.column-most) in
-          let deg : degree_at pivots i - 1 < w = omega (arith, x.leading.height, x.leading.height-most) in
+          let col : index_at pivots i - 1 < m = omega (arith, x.leading.column, x.leading.column_most) in
+          let deg : degree_at pivots i - 1 < w = omega (arith, x.leading.height, x.leading.height_most) in
           here.R.at i _ _ li col deg
-          ∙ ap (λ row. (row (index_at pivots i - 1) (degree_at pivots i - 1)).val) (row_kept (zp-field p prime) m w asked.t i)
+          ∙ ap (λ row. (row (index_at pivots i - 1) (degree_at pivots i - 1)).val) (row_kept (zp_field p prime) m w asked.t i)
           ∙ sym (holding.R.at i _ _ li col deg)
 
       pivot-there : 0 < values_of m w r₀ i → PivotAsked m w i pivot r₀
-      pivot-there l = pivot-asked n m w bounds.columns r₀ holding.R.size pivots-are i li l
+      pivot-there l = pivot-asked n m w bounds.columns r₀ holding.R.size pivots_are i li l
 
       pub row-asked : RowToDivide p reciprocal n m w i pivot r u v
       row-asked = record {
@@ -141,14 +141,14 @@ module _ {p reciprocal n m w : ℕ} {r₀ u₀ v₀ : List ℕ} {pivots : List P
         holding = here;
         fits = li;
         led = λ l.
-            let x = pivot-there (omega (arith, (pivots-are.row i li).index_is, value-is m (values_of m w r₀ i))) in
+            let x = pivot-there (omega (arith, (pivots_are.row i li).index_is, value-is m (values_of m w r₀ i))) in
             record {
               leading = record {
                 row = omega (arith, lengths, x.leading.row);
                 column = x.leading.column;
-                column-most = x.leading.column-most;
+                column_most = x.leading.column_most;
                 height = x.leading.height;
-                height-most = x.leading.height-most;
+                height_most = x.leading.height_most;
               };
               nonzero = rw (leading-kept x) x.nonzero;
             };
@@ -157,16 +157,16 @@ module _ {p reciprocal n m w : ℕ} {r₀ u₀ v₀ : List ℕ} {pivots : List P
       module _ {r' u' v' : List ℕ} (d : RowDivided p n m w i pivot r u v r' u' v') where
         module _ (P : Prime p) (t : Carried (Zp p)) (h : Holding p n m w r₀ u₀ v₀ t) where
           abbrev K : Field (Zp p)
-          K = zp-field p P
+          K = zp_field p P
 
           divisor-number : (divisor K m w (t.R i)).val ≡ d.c
           divisor-number =
               number_is p P m w _ (leading K m w (t.R i)) (leading_at m w r i pivot) (λ l.
-              leading-is p P n m w bounds.columns h.R pivots-are i li l
+              leading-is p P n m w bounds.columns h.R pivots_are i li l
               ∙ sym (leading-kept (pivot-there (omega (arith, value-held p P n m w h.R bounds.columns i li)))))
               ∙ ap (λ (x : ℕ). where_some x (leading_at m w r i pivot))
-              (sym ((pivots-are.row i li).index_is ∙ ap (index m) (sym (value-held p P n m w h.R bounds.columns i li))))
-              ∙ sym d.c-is
+              (sym ((pivots_are.row i li).index_is ∙ ap (index m) (sym (value-held p P n m w h.R bounds.columns i li))))
+              ∙ sym d.c_is
 
           inverse-number : (dividing K m w (t.R i)).val ≡ d.f
           inverse-number =
@@ -177,9 +177,9 @@ module _ {p reciprocal n m w : ℕ} {r₀ u₀ v₀ : List ℕ} {pivots : List P
 
           next-held : Holding p n m w r' u' v' (partly K m w t (suc i))
           next-held = let held = inv.held P t h in record {
-            R = held-row-scaled p P n m w _ i li held.R (subst (λ (f : ℕ). RowScaled p m w f i r r') (sym inverse-number) d.r-divided);
-            U = held-row-scaled p P n n (n * w) _ i li held.U (subst (λ (f : ℕ). RowScaled p n (n * w) f i u u') (sym inverse-number) d.u-divided);
-            V' = held-column-scaled p P n w _ i li held.V' (subst (λ (c : ℕ). ColumnScaled p n w c i v v') (sym divisor-number) d.v-multiplied);
+            R = held-row-scaled p P n m w _ i li held.R (subst (λ (f : ℕ). RowScaled p m w f i r r') (sym inverse-number) d.r_divided);
+            U = held-row-scaled p P n n (n * w) _ i li held.U (subst (λ (f : ℕ). RowScaled p n (n * w) f i u u') (sym inverse-number) d.u_divided);
+            V' = held-column-scaled p P n w _ i li held.V' (subst (λ (c : ℕ). ColumnScaled p n w c i v v') (sym divisor-number) d.v_multiplied);
           }
 
         pub dividing-on : Dividing p n m w r₀ u₀ v₀ r' u' v' (i + 1)

@@ -36,11 +36,11 @@ module _ {p reciprocal n m w i : ℕ} {pivot : Pivot} {r u v : List ℕ} (asked 
   zero_row none = record {
     c = 1;
     f = 1;
-    c-is = rw none refl;
+    c_is = rw none refl;
     inverse = record { one = N.mod-eq_of_lt prime.two; below = prime.two };
-    r-divided = once prime.two (held-coefficients (by_rows n m w) p holding.R);
-    u-divided = once prime.two (held-coefficients (by_rows n n (n * w)) p holding.U);
-    v-multiplied = once prime.two (held-coefficients (by_rows n n w) p holding.V');
+    r_divided = once prime.two (held-coefficients (by_rows n m w) p holding.R);
+    u_divided = once prime.two (held-coefficients (by_rows n n (n * w)) p holding.U);
+    v_multiplied = once prime.two (held-coefficients (by_rows n n w) p holding.V');
   }
 
   -- what a row that is not zero is divided by

@@ -8,7 +8,7 @@ use lib.ListN.{length, get_or}
 use Rattle.theory_algebra.specs.Field.{Field}
 use Rattle.theory_algebra.specs.Prime.{Prime}
 use Rattle.theory_algebra.specs.Residue.{Zp}
-use Rattle.theory_rings.specs.PrimeField.{zp-field}
+use Rattle.theory_rings.specs.PrimeField.{zp_field}
 use Rattle.theory_lattice.specs.Row.{Row}
 use Rattle.theory_lists.specs.Last.{last_nonzero}
 use Rattle.theory_lists.specs.Total.{total}
@@ -25,7 +25,7 @@ use Rattle.theory_popov.proofs.SecondStep.{left}
 use Rattle.matrix_pivots.specs.Pivot.{values_of, Pivots}
 use Rattle.matrix_pivots.specs.declared.pivot.Pivot.{Pivot}
 use Rattle.matrix_steps.proofs.Value.{top-last}
-use Rattle.matrix_steps.proofs.Moving.{column-is, degree-is}
+use Rattle.matrix_steps.proofs.Moving.{column-is, degree_is}
 use Rattle.matrix_popov.specs.second_step.Excess.{cell_of, excess_at}
 
 -- what is left to remove, by numbers
@@ -35,7 +35,7 @@ left_of n m w r pivots = total n (λ a. load a (excess_at m w r pivots a))
 module _ (p : ℕ) (P : Prime p) (n m w : ℕ) (columns : 0 < m) {r : List ℕ} {pivots : List Pivot} {M : ℕ → Row (Zp p)}
     (h : Held (by_rows n m w) p r M) (found : Pivots n m (values_of m w r) pivots) where
   abbrev K : Field (Zp p)
-  K = zp-field p P
+  K = zp_field p P
 
   cell-top : (i j : ℕ) → i < n → j < m → used_places (cell_of m w r i j) ≡ top K w (M i j)
   cell-top i j li lj =
@@ -53,7 +53,7 @@ module _ (p : ℕ) (P : Prime p) (n m w : ℕ) (columns : 0 < m) {r : List ℕ} 
   unfolding excess
   excess-held k i lk li = ap₂ (λ (x y : ℕ). x - y)
       (ap (λ (j : ℕ). used_places (cell_of m w r k j)) (column-is p P n m w columns h found i li) ∙ cell-top k _ lk (N.mod-lt _ columns))
-      (degree-is p P n m w columns h found i li)
+      (degree_is p P n m w columns h found i li)
 
   pub left-held : left_of n m w r pivots ≡ left K n m w M
   left-held = total-same n _ _ (λ a la. load_same a _ _ (λ j lj. excess-held a j la (omega arith)))

@@ -13,16 +13,16 @@ use Rattle.matrix_popov.specs.second_step.Removing.{Removes, RemoveAsked}
 
 module _ {p reciprocal n m w k i e : ℕ} {r u v : List ℕ} {pivots : List Pivot} (asked : RemoveAsked p reciprocal n m w k i e r u v pivots)
     {x c f : ℕ} (g : Removes p m w k i (get_or pivots i zero_row) e r x c f) where
-  open asked use {term, i-short, move}
+  open asked use {term, i_short, move}
 
   pub row-asked : RowsInBuffer p reciprocal f x m w (degree_at pivots i) k i r
   row-asked = record {
-    multiplier = record { ready = term.ready; factor = negative-below g; room = omega (arith, g.e-is, term.k-term.height-most) };
-    l-fits = term.k-term.row;
-    k-fits = term.i-pivot.leading.row;
+    multiplier = record { ready = term.ready; factor = negative-below g; room = omega (arith, g.e_is, term.k_term.height_most) };
+    l_fits = term.k_term.row;
+    k_fits = term.i_pivot.leading.row;
     differ = move.differ;
     residues = term.residues;
-    short = i-short;
+    short = i_short;
   }
 
   pub follow-asked : FollowAsked p reciprocal n w k i x c f (n * w - e) (w + 1 - degree_at pivots k) u v

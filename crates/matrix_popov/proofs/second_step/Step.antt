@@ -8,22 +8,22 @@ use Rattle.theory_algebra.specs.Field.{Field}
 use Rattle.theory_algebra.specs.Prime.{Prime}
 use Rattle.theory_algebra.specs.Residue.{Zp}
 use Rattle.theory_algebra.proofs.Cases.{case-le}
-use Rattle.theory_rings.specs.PrimeField.{zp-field}
+use Rattle.theory_rings.specs.PrimeField.{zp_field}
 use Rattle.theory_lattice.specs.Row.{Row, coef}
 use Rattle.theory_lists.proofs.Grid.{one_line}
 use Rattle.theory_reduction.specs.Pivot.{value, height}
 use Rattle.theory_reduction.specs.Step.{Carried, leading}
 use Rattle.theory_reduction.proofs.Index.{indexed, index-some, height-some}
 use Rattle.theory_reduction.proofs.Pivot.{value-lead}
-use Rattle.theory_reduction.proofs.Degrees.{u-fits, v-degrees}
-use Rattle.theory_reduction.specs.Narrow.{pivot-degree, spent-since}
-use Rattle.theory_popov.specs.SecondKind.{Removal, pivot-of, excesses, exponent, excessive, remover, remove}
+use Rattle.theory_reduction.proofs.Degrees.{u-fits, v_degrees}
+use Rattle.theory_reduction.specs.Narrow.{pivot_degree, spent_since}
+use Rattle.theory_popov.specs.SecondKind.{Removal, pivot_of, excesses, exponent, excessive, remover, remove}
 use Rattle.theory_popov.specs.SecondRun.{SecondRuns}
 use Rattle.theory_popov.specs.Tidy.{Tidy}
 use Rattle.theory_popov.proofs.Carrying.{removed-carries}
 use Rattle.theory_popov.specs.Carries.{Carries}
 use Rattle.theory_popov.proofs.Removing.{Removed}
-use Rattle.theory_popov.proofs.SecondStep.{zero-excess, k-some, removed-row, values-kept, tidy-step, excesses-kept, left-falls}
+use Rattle.theory_popov.proofs.SecondStep.{zero-excess, k_some, removed-row, values-kept, tidy-step, excesses-kept, left-falls}
 use Rattle.poly.specs.residues.Modulus.{Ready}
 use Rattle.matrix_promises.specs.Holding.{Holding}
 use Rattle.matrix_promises.specs.Layout.{by_rows}
@@ -33,9 +33,9 @@ use Rattle.matrix_pivots.specs.Pivot.{values_of, index_at, degree_at, Pivots}
 use Rattle.matrix_pivots.specs.declared.pivot.Pivot.{Pivot}
 use Rattle.matrix_steps.specs.multiple.Factor.{Divided}
 use Rattle.matrix_steps.specs.multiple.Asked.{CoefficientAsked}
-use Rattle.matrix_steps.proofs.Value.{value-held, height-most}
+use Rattle.matrix_steps.proofs.Value.{value-held, height_most}
 use Rattle.matrix_steps.proofs.Moving.{height-is, coefficient-is, leading-is, subtracted-holding}
-use Rattle.matrix_steps.proofs.Short.{spent_fits, u-short, v-short}
+use Rattle.matrix_steps.proofs.Short.{spent_fits, u_short, v_short}
 use Rattle.matrix_steps.proofs.RowsOf.{row_fits, pivot-short, pivot-asked}
 use Rattle.matrix_popov.specs.second_step.Excess.{excess_at, IsHighest}
 use Rattle.matrix_popov.specs.second_step.Removing.{RemoveAsked, SecondMove, Standing, ClearedTo}
@@ -48,12 +48,12 @@ within e low high spent less all h some fits = omega arith
 -- row k, in the column of another row's pivot
 pub other_row : {m w i k x h h' : ℕ} {r : List ℕ} → CoefficientAsked m w i x h r → k * (m * w) + m * w ≤ length r → 0 < h' → h' ≤ w
     → CoefficientAsked m w k x h' r
-other_row pivot row some most = record { row = row; column = pivot.column; column-most = pivot.column-most; height = some; height-most = most }
+other_row pivot row some most = record { row = row; column = pivot.column; column_most = pivot.column_most; height = some; height_most = most }
 
 -- the rows before k are cleared, and row k has the greatest excess over row i
 pub record Turn (n m w k i most : ℕ) (r : List ℕ) (pivots : List Pivot) : Type 0 where
   pub bounds : Bounds n m w
-  pub k-fits : k < n
+  pub k_fits : k < n
   pub before : ClearedTo m w k r pivots
   pub found : IsHighest k (excess_at m w r pivots k) i most
   pub some : 0 < most
@@ -62,7 +62,7 @@ pub record Turn (n m w k i most : ℕ) (r : List ℕ) (pivots : List Pivot) : Ty
 module _ {p n m w rank : ℕ} {P : Prime p} {A : ℕ → Row (Zp p)} {r u v : List ℕ} {pivots : List Pivot} {t : Carried (Zp p)} (columns : 0 < m)
     (found : Pivots n m (values_of m w r) pivots) (s : Standing p P n m w rank A r u v t) where
   abbrev K : Field (Zp p)
-  K = zp-field p P
+  K = zp_field p P
 
   abbrev M : ℕ → Row (Zp p)
   M = t.R
@@ -83,7 +83,7 @@ module _ {p n m w rank : ℕ} {P : Prime p} {A : ℕ → Row (Zp p)} {r u v : Li
       (λ l. l)
 
   pub first_some : (i : ℕ) → i < rank → 0 < values_of m w r i
-  first_some i l = let fits = s.tidy.ascends.rank-fits in omega (arith, value-is i (omega arith), s.tidy.ascends.some i l)
+  first_some i l = let fits = s.tidy.ascends.rank_fits in omega (arith, value-is i (omega arith), s.tidy.ascends.some i l)
 
   -- from a row without one on there is no excess
   pub rest-none : (k : ℕ) → k < n → index_at pivots k ≡ 0 → (a j : ℕ) → j < a → a < n → k ≤ a → excess_at m w r pivots a j ≡ 0
@@ -95,28 +95,28 @@ module _ {p n m w rank : ℕ} {P : Prime p} {A : ℕ → Row (Zp p)} {r u v : Li
           (λ l. absurd (omega (arith, none, (found.row k lk).index_is, index-some m (values_of m w r k) (first_some k (omega arith)))))
 
   module _ {k i most : ℕ} (turn : Turn n m w k i most r pivots) where
-    open turn use {bounds, k-fits, before, some}
-    open bounds use {places, rows-most}
+    open turn use {bounds, k_fits, before, some}
+    open bounds use {places, rows_most}
 
     i-before : i < k
     i-before = (turn.found.has some).0
 
-    i-fits : i < n
-    i-fits = omega (arith, i-before)
+    i_fits : i < n
+    i_fits = omega (arith, i-before)
 
     excess-now : excesses K m w M k i ≡ most
-    excess-now = sym (excess-is k i k-fits i-fits) ∙ (turn.found.has some).1
+    excess-now = sym (excess-is k i k_fits i_fits) ∙ (turn.found.has some).1
 
     pub removal : Removal n (excesses K m w M)
     removal = record {
       k = k;
-      fits = k-fits;
+      fits = k_fits;
       highest = record {
         at = i;
         fits = i-before;
         some = omega (arith, excess-now);
-        greatest = λ j l. omega (arith, excess-now, excess-is k j k-fits (omega arith), turn.found.greatest j l);
-        lowest = λ j l. omega (arith, excess-now, excess-is k j k-fits (omega (arith, i-before)), turn.found.lowest j l);
+        greatest = λ j l. omega (arith, excess-now, excess-is k j k_fits (omega arith), turn.found.greatest j l);
+        lowest = λ j l. omega (arith, excess-now, excess-is k j k_fits (omega (arith, i-before)), turn.found.lowest j l);
       };
       done = λ a j l la. sym (excess-is a j (omega arith) (omega arith)) ∙ before.none a j l la;
     }
@@ -128,7 +128,7 @@ module _ {p n m w rank : ℕ} {P : Prime p} {A : ℕ → Row (Zp p)} {r u v : Li
 
     k-first : k < rank
     unfolding removal
-    k-first = k-some K n m w rank columns M s.tidy removal
+    k-first = k_some K n m w rank columns M s.tidy removal
 
     removed : Removed K m w (M k) (M i)
     unfolding removal
@@ -138,52 +138,52 @@ module _ {p n m w rank : ℕ} {P : Prime p} {A : ℕ → Row (Zp p)} {r u v : Li
     i-some : 0 < value K m w (M i)
     i-some = s.tidy.ascends.some i (omega (arith, i-before, k-first))
 
-    high : degree_at pivots k ≡ suc (pivot-of K m w (M k)).deg
-    high = height-now k k-fits ∙ height-some m _ (s.tidy.ascends.some k k-first)
+    high : degree_at pivots k ≡ suc (pivot_of K m w (M k)).deg
+    high = height-now k k_fits ∙ height-some m _ (s.tidy.ascends.some k k-first)
 
-    low : degree_at pivots i ≡ suc (pivot-of K m w (M i)).deg
-    low = height-now i i-fits ∙ height-some m _ i-some
+    low : degree_at pivots i ≡ suc (pivot_of K m w (M i)).deg
+    low = height-now i i_fits ∙ height-some m _ i-some
 
     -- the multiple of row i is no higher than row k
     room : most - 1 + degree_at pivots i ≤ degree_at pivots k
     room = omega (arith, high, low, removed.room, excess-now)
 
     high-most : degree_at pivots k ≤ w
-    high-most = omega (arith, (found.row k k-fits).degree-is, height-most m w r k)
+    high-most = omega (arith, (found.row k k_fits).degree_is, height_most m w r k)
 
     -- so row i of U, shifted as it is, ends within the cells
-    u-ends : (j : ℕ) → suc (pivot-degree K n m w M i + spent-since K n m w A t) - pivot-degree K n m w A j ≤ n * w - (most - 1)
-    u-ends j = within (most - 1) _ _ (spent-since K n m w A t) (pivot-degree K n m w A j) (n * w)
-        (omega (arith, room, height-now k k-fits, height-now i i-fits)) (omega (arith, low, height-now i i-fits))
-        (spent_fits p P n m w A s.holding s.carries.narrow places s.bounded k k-fits)
+    u-ends : (j : ℕ) → suc (pivot_degree K n m w M i + spent_since K n m w A t) - pivot_degree K n m w A j ≤ n * w - (most - 1)
+    u-ends j = within (most - 1) _ _ (spent_since K n m w A t) (pivot_degree K n m w A j) (n * w)
+        (omega (arith, room, height-now k k_fits, height-now i i_fits)) (omega (arith, low, height-now i i_fits))
+        (spent_fits p P n m w A s.holding s.carries.narrow places s.bounded k k_fits)
 
     pub remove-asked : {reciprocal : ℕ} → Ready p reciprocal → RemoveAsked p reciprocal n m w k i (most - 1) r u v pivots
     remove-asked ready =
         let size = s.holding.R.size in
-        let pivot = pivot-asked n m w columns r size found i i-fits (first_some i (omega (arith, i-before, k-first))) in
+        let pivot = pivot-asked n m w columns r size found i i_fits (first_some i (omega (arith, i-before, k-first))) in
         record {
-          rows = rows-most;
+          rows = rows_most;
           term = record {
             ready = ready;
             prime = P;
             residues = held-coefficients (by_rows n m w) p s.holding.R;
-            i-pivot = pivot;
-            k-term = other_row pivot.leading (row_fits n m w columns r size k k-fits) (omega (arith, low)) (omega (arith, room, high-most));
+            i_pivot = pivot;
+            k_term = other_row pivot.leading (row_fits n m w columns r size k k_fits) (omega (arith, low)) (omega (arith, room, high-most));
           };
-          i-short = pivot-short n m w columns r size found i i-fits;
-          k-most = high-most;
+          i_short = pivot-short n m w columns r size found i i_fits;
+          k_most = high-most;
           move = record {
-            u-size = s.holding.U.size;
-            v-size = s.holding.V'.size;
-            u-residues = held-coefficients (by_rows n n (n * w)) p s.holding.U;
-            v-residues = held-coefficients (by_rows n n w) p s.holding.V';
-            l-fits = k-fits;
-            k-fits = i-fits;
+            u_size = s.holding.U.size;
+            v_size = s.holding.V'.size;
+            u_residues = held-coefficients (by_rows n n (n * w)) p s.holding.U;
+            v_residues = held-coefficients (by_rows n n w) p s.holding.V';
+            l_fits = k_fits;
+            k_fits = i_fits;
             differ = λ e. omega (arith, i-before);
-            u-short = u-short p P n m w A s.holding s.carries.narrow i _ i-fits (λ j _. u-ends j);
-            v-short = v-short p P n m w A s.holding s.carries.narrow columns places s.bounded found k k-fits;
-            u-room = omega (arith, room, high-most, low, one_line n w (omega arith));
-            v-room = omega (arith, room, high-most, low);
+            u_short = u_short p P n m w A s.holding s.carries.narrow i _ i_fits (λ j _. u-ends j);
+            v_short = v_short p P n m w A s.holding s.carries.narrow columns places s.bounded found k k_fits;
+            u_room = omega (arith, room, high-most, low, one_line n w (omega arith));
+            v_room = omega (arith, room, high-most, low);
           };
         }
 
@@ -201,15 +201,15 @@ module _ {p n m w rank : ℕ} {P : Prime p} {A : ℕ → Row (Zp p)} {r u v : Li
 
       divided : Divided p (coef (M k) (excessive K m w (M k) (M i))).val (leading K m w (M i)).val (exponent K m w (M k) (M i)) d.e d.c d.f
       divided =
-          let term = coefficient-is p P n m w columns s.holding.R found k i (exponent K m w (M k) (M i)) k-fits i-fits i-some
+          let term = coefficient-is p P n m w columns s.holding.R found k i (exponent K m w (M k) (M i)) k_fits i_fits i-some
           (omega (arith, removed.room, high, high-most)) in
-          rw (term, leading-is p P n m w columns s.holding.R found i i-fits i-some, excess-now) d.divided
+          rw (term, leading-is p P n m w columns s.holding.R found i i_fits i-some, excess-now) d.divided
 
       holding' : Holding p n m w r' u' v' t'
       unfolding removal remove remover
-      holding' = subtracted-holding p P _ _ (value-lead K m w (M i) (s.tidy.bounded i i-fits) i-some).top divided n m w k i k-fits i-fits
-          s.holding d.r-move d.followed tidy'.bounded (λ i li j lj. u-fits K n m w A _ s.bounded carries'.narrow places i j li lj)
-          (λ i li j lj. v-degrees K n m w A _ s.bounded carries'.narrow places i j li lj)
+      holding' = subtracted-holding p P _ _ (value-lead K m w (M i) (s.tidy.bounded i i_fits) i-some).top divided n m w k i k_fits i_fits
+          s.holding d.r_move d.followed tidy'.bounded (λ i li j lj. u-fits K n m w A _ s.bounded carries'.narrow places i j li lj)
+          (λ i li j lj. v_degrees K n m w A _ s.bounded carries'.narrow places i j li lj)
 
       pub standing_on : Standing p P n m w rank A r' u' v' t'
       standing_on = record { holding = holding'; tidy = tidy'; bounded = s.bounded; carries = carries' }

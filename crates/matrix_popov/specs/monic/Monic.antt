@@ -2,7 +2,7 @@
 use Rattle.std.specs.Prelude.{◌≡◌, List, ℕ, zero, suc, ◌*◌, ◌<◌}
 use Rattle.theory_algebra.specs.Prime.{Prime}
 use Rattle.theory_algebra.specs.Residue.{Zp}
-use Rattle.theory_rings.specs.PrimeField.{zp-field}
+use Rattle.theory_rings.specs.PrimeField.{zp_field}
 use Rattle.theory_reduction.specs.Step.{Carried}
 use Rattle.theory_popov.specs.Scaled.{scaled}
 use Rattle.poly.specs.residues.Modulus.{Ready, Inverse}
@@ -32,11 +32,11 @@ where_some (suc x) c = c
 pub record RowDivided (p n m w i : ℕ) (pivot : Pivot) (r u v r' u' v' : List ℕ) : Type 0 where
   pub c : ℕ
   pub f : ℕ
-  pub c-is : c ≡ where_some pivot.index.0 (leading_at m w r i pivot)
+  pub c_is : c ≡ where_some pivot.index.0 (leading_at m w r i pivot)
   pub inverse : Inverse p c f
-  pub r-divided : RowScaled p m w f i r r'
-  pub u-divided : RowScaled p n (n * w) f i u u'
-  pub v-multiplied : ColumnScaled p n w c i v v'
+  pub r_divided : RowScaled p m w f i r r'
+  pub u_divided : RowScaled p n (n * w) f i u u'
+  pub v_multiplied : ColumnScaled p n w c i v v'
 
 -- matrices that the buffers hold, with the pivots of the rows of R
 pub record MonicAsked (p reciprocal n m w : ℕ) (r u v : List ℕ) (pivots : List Pivot) : Type 0 where
@@ -45,8 +45,8 @@ pub record MonicAsked (p reciprocal n m w : ℕ) (r u v : List ℕ) (pivots : Li
   pub bounds : Bounds n m w
   pub t : Carried (Zp p)
   pub holding : Holding p n m w r u v t
-  pub pivots-are : Pivots n m (values_of m w r) pivots
+  pub pivots_are : Pivots n m (values_of m w r) pivots
 
 -- what the buffers held is divided; U and V follow
 pub record MadeMonic (p n m w : ℕ) (r u v r' u' v' : List ℕ) : Type 0 where
-  pub by : (P : Prime p) (t : Carried (Zp p)) → Holding p n m w r u v t → Holding p n m w r' u' v' (scaled (zp-field p P) m w t)
+  pub by : (P : Prime p) (t : Carried (Zp p)) → Holding p n m w r u v t → Holding p n m w r' u' v' (scaled (zp_field p P) m w t)

@@ -2,7 +2,7 @@
 use Rattle.std.specs.Prelude.{◌≡◌, List, ℕ, ◌+◌, ◌*◌, ◌-◌, ◌≤◌, ◌<◌, get_or}
 use Rattle.theory_algebra.specs.Prime.{Prime}
 use Rattle.theory_algebra.specs.Residue.{Zp}
-use Rattle.theory_rings.specs.PrimeField.{zp-field}
+use Rattle.theory_rings.specs.PrimeField.{zp_field}
 use Rattle.theory_lattice.specs.Row.{Row}
 use Rattle.theory_lattice.specs.PolynomialMatrix.{AllBounded}
 use Rattle.theory_lists.specs.Coefficients.{Coefficients}
@@ -28,8 +28,8 @@ pub record TermAsked (p reciprocal m w k i : ℕ) (low : Pivot) (e : ℕ) (r : L
   pub ready : Ready p reciprocal
   pub prime : Prime p
   pub residues : Coefficients p r
-  pub i-pivot : PivotAsked m w i low r
-  pub k-term : CoefficientAsked m w k low.index.0 (low.degree.0 + e) r
+  pub i_pivot : PivotAsked m w i low r
+  pub k_term : CoefficientAsked m w k low.index.0 (low.degree.0 + e) r
 
 -- "the multiple c·x^e of the row that has it […] that removes that term": c is the coefficient of that term, divided by the leading
 -- coefficient of row i
@@ -40,8 +40,8 @@ Removes p m w k i low e r = Divided p (coefficient_at m w r k low.index.0 (low.d
 pub record RemoveAsked (p reciprocal n m w k i e : ℕ) (r u v : List ℕ) (pivots : List Pivot) : Type 0 where
   pub rows : n ≤ 8
   pub term : TermAsked p reciprocal m w k i (get_or pivots i zero_row) e r
-  pub i-short : Short w (degree_at pivots i) m (spot m w i) r
-  pub k-most : degree_at pivots k ≤ w
+  pub i_short : Short w (degree_at pivots i) m (spot m w i) r
+  pub k_most : degree_at pivots k ≤ w
   pub move : MoveAsked p n w k i e (n * w - e) (w + 1 - degree_at pivots k) u v
 
 -- a step of the second kind: "subtract the multiple"
@@ -53,16 +53,16 @@ SecondMove p n m w k i e pivots r u v =
 -- are zero
 pub record Standing (p : ℕ) (P : Prime p) (n m w rank : ℕ) (A : ℕ → Row (Zp p)) (r u v : List ℕ) (t : Carried (Zp p)) : Type 0 where
   pub holding : Holding p n m w r u v t
-  pub tidy : Tidy (zp-field p P) n m w rank t.R
-  pub bounded : AllBounded (zp-field p P).ring n m w A
-  pub carries : Carries (zp-field p P) n m w A t
+  pub tidy : Tidy (zp_field p P) n m w rank t.R
+  pub bounded : AllBounded (zp_field p P).ring n m w A
+  pub carries : Carries (zp_field p P) n m w A t
 
 -- such a state with the pivots of its rows
 pub record RemovingAsked (p reciprocal n m w : ℕ) (r u v : List ℕ) (pivots : List Pivot) : Type 0 where
   pub ready : Ready p reciprocal
   pub prime : Prime p
   pub bounds : Bounds n m w
-  pub pivots-are : Pivots n m (values_of m w r) pivots
+  pub pivots_are : Pivots n m (values_of m w r) pivots
   pub rank : ℕ
   pub A : ℕ → Row (Zp p)
   pub t : Carried (Zp p)
@@ -76,17 +76,17 @@ pub record ClearedTo (m w k : ℕ) (r : List ℕ) (pivots : List Pivot) : Type 0
 pub record ClearAsked (p reciprocal n m w k : ℕ) (r u v : List ℕ) (pivots : List Pivot) : Type 0 where
   pub removing : RemovingAsked p reciprocal n m w r u v pivots
   pub before : ClearedTo m w k r pivots
-  pub k-fits : k < n
-  pub k-some : 0 < index_at pivots k
+  pub k_fits : k < n
+  pub k_some : 0 < index_at pivots k
 
 -- `count` steps of the second kind on the first k rows lead from t to a state that the buffers hold, where none applies to them
 pub record ClearedBy (p : ℕ) (P : Prime p) (n m w rank : ℕ) (A : ℕ → Row (Zp p)) (k count : ℕ) (t : Carried (Zp p)) (r u v : List ℕ) : Type 0 where
   pub t' : Carried (Zp p)
-  pub runs : SecondRuns (zp-field p P) k m w count t t'
+  pub runs : SecondRuns (zp_field p P) k m w count t t'
   pub standing : Standing p P n m w rank A r u v t'
 
 -- from whatever such state the buffers r, u and v held, whatever proof of primality is in hand; the pivots are as they were
 pub record Cleared (p n m w k count : ℕ) (pivots : List Pivot) (r u v r' u' v' : List ℕ) : Type 0 where
-  pub pivots-are : Pivots n m (values_of m w r') pivots
+  pub pivots_are : Pivots n m (values_of m w r') pivots
   pub by : (P : Prime p) (rank : ℕ) (A : ℕ → Row (Zp p)) (t : Carried (Zp p)) → Standing p P n m w rank A r u v t
       → ClearedBy p P n m w rank A k count t r' u' v'

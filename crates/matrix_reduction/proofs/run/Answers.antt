@@ -20,7 +20,7 @@ fits : (c : In-Rows) → (c.in-Rows.l < 8) × (c.in-Rows.k < 8)
 fits c = rows_fit c.requires.input c.loop-l.invariant.going (next c)
 
 pub least-least-requires : goal.least-least-requires
-least-least-requires c = c.requires.input.bounds.rows-most
+least-least-requires c = c.requires.input.bounds.rows_most
 
 pub loop-l-init : goal.loop-l-init
 loop-l-init c = search (rules, running-start)
@@ -29,7 +29,7 @@ pub next_rows-requires : goal.next_rows-requires
 next_rows-requires c = next-asked c.requires.input c.loop-l.invariant.going
 
 pub rank-rank-requires : goal.rank-rank-requires
-rank-rank-requires c = c.requires.input.bounds.rows-most
+rank-rank-requires c = c.requires.input.bounds.rows_most
 
 pub returns-in_default : goal.returns-in_default
 returns-in_default c =

@@ -91,11 +91,11 @@ numbers-fine {p} {n} {m} {d} is said = (in-range [] refl (subst (Verdict (number
 pub in_bounds : {p n m d : ℕ} → Numbers p n m d → Bounds n m (d + 1)
 in_bounds h = record {
   rows = omega (arith, h.shape.rows);
-  rows-most = h.shape.rows-most;
+  rows_most = h.shape.rows_most;
   columns = omega (arith, h.shape.columns);
-  columns-most = h.shape.columns-most;
+  columns_most = h.shape.columns_most;
   places = omega arith;
-  places-most = omega (arith, h.degree);
+  places_most = omega (arith, h.degree);
 }
 
 -- so the places of the determinant are few

@@ -8,13 +8,13 @@ pub loop-i-init : goal.loop-i-init
 loop-i-init c = writing_start
 
 pub overflow_mul-done : goal.overflow_mul-done
-overflow_mul-done c = omega (arith, c.requires.to-fits _ c.loop-i-test.true)
+overflow_mul-done c = omega (arith, c.requires.to_fits _ c.loop-i-test.true)
 
 pub overflow_add-to : goal.overflow_add-to
-overflow_add-to c = omega (arith, c.requires.to-fits _ c.loop-i-test.true)
+overflow_add-to c = omega (arith, c.requires.to_fits _ c.loop-i-test.true)
 
 pub overflow_add-from : goal.overflow_add-from
-overflow_add-from c = omega (arith, c.requires.from-fits _ c.loop-i-test.true)
+overflow_add-from c = omega (arith, c.requires.from_fits _ c.loop-i-test.true)
 
 pub add_cell-requires : goal.add_cell-requires
 add_cell-requires c = search (rules, pair)

@@ -19,7 +19,7 @@ module _ (size one other : ℕ) (b₀ b : List ℕ) (pre : TwoParts size one oth
     (done : Exchanging t one other b₀ b) (lt : t < size) where
   -- they are within the buffer
   pub inside : (one + t < length b) × (other + t < length b)
-  inside = (omega (arith, pre.one-fits, done.size), omega (arith, pre.other_fits, done.size))
+  inside = (omega (arith, pre.one_fits, done.size), omega (arith, pre.other_fits, done.size))
 
   apart : (u v : ℕ) → u ≤ t → v ≤ t → one + u ≢ other + v
   apart u v lu lv = pre.apart u v (omega arith) (omega arith)

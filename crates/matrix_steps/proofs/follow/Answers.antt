@@ -8,8 +8,8 @@ pub overflow_mul-n : goal.overflow_mul-n
 overflow_mul-n c =
     let n = c.args.n in
     let cell = n * c.args.w in
-    let rows : 0 < n = omega (arith, c.requires.move.l-fits) in
-    omega (arith, c.requires.move.u-size, one_line n cell rows, one_line n (n * cell) rows)
+    let rows : 0 < n = omega (arith, c.requires.move.l_fits) in
+    omega (arith, c.requires.move.u_size, one_line n cell rows, one_line n (n * cell) rows)
 
 pub add_row-requires : goal.add_row-requires
 add_row-requires c = u-asked c.requires

@@ -12,7 +12,7 @@ use Rattle.matrix_steps.specs.multiple.Asked.{CoefficientAsked, DivideAsked, Pla
 -- a coefficient of the matrix is a residue
 pub coefficient-below : {p m w i x h : ℕ} {r : List ℕ} → Coefficients p r → CoefficientAsked m w i x h r → coefficient_at m w r i x h < p
 coefficient-below {m = m} {w = w} {x = x} {h = h} residues a = residues.below _
-    (omega (arith, a.row, within (x - 1) (h - 1) m w (omega (arith, a.column, a.column-most)) (omega (arith, a.height, a.height-most))))
+    (omega (arith, a.row, within (x - 1) (h - 1) m w (omega (arith, a.column, a.column_most)) (omega (arith, a.height, a.height_most))))
 
 -- so two leading coefficients of which the second is not 0 can be divided
 pub divide-asked : {p reciprocal m w l k : ℕ} {high low : Pivot} {r : List ℕ} → PlanAsked p reciprocal m w l k high low r
@@ -20,11 +20,11 @@ pub divide-asked : {p reciprocal m w l k : ℕ} {high low : Pivot} {r : List ℕ
 divide-asked asked = record {
   ready = asked.ready;
   prime = asked.prime;
-  dividend = coefficient-below asked.residues asked.l-pivot.leading;
-  divisor = coefficient-below asked.residues asked.k-pivot.leading;
-  nonzero = asked.k-pivot.nonzero;
+  dividend = coefficient-below asked.residues asked.l_pivot.leading;
+  divisor = coefficient-below asked.residues asked.k_pivot.leading;
+  nonzero = asked.k_pivot.nonzero;
 }
 
 -- what is added in place of a subtraction is a residue too
 pub negative-below : {p a b d e c f : ℕ} → Divided p a b d e c f → f < p
-negative-below {p} {c = c} g = rw g.f-is (mod-lt (p - c) (omega (arith, g.c-below)))
+negative-below {p} {c = c} g = rw g.f_is (mod-lt (p - c) (omega (arith, g.c_below)))

@@ -10,9 +10,9 @@ use Rattle.matrix_steps.specs.multiple.Factor.{leading_at}
 pub record CoefficientAsked (m w i x h : ℕ) (r : List ℕ) : Type 0 where
   pub row : i * (m * w) + m * w ≤ length r
   pub column : 0 < x
-  pub column-most : x ≤ m
+  pub column_most : x ≤ m
   pub height : 0 < h
-  pub height-most : h ≤ w
+  pub height_most : h ≤ w
 
 -- residues of which b is not 0
 pub record DivideAsked (p reciprocal a b : ℕ) : Type 0 where
@@ -32,6 +32,6 @@ pub record PlanAsked (p reciprocal m w l k : ℕ) (high low : Pivot) (r : List �
   pub ready : Ready p reciprocal
   pub prime : Prime p
   pub residues : Coefficients p r
-  pub l-pivot : PivotAsked m w l high r
-  pub k-pivot : PivotAsked m w k low r
+  pub l_pivot : PivotAsked m w l high r
+  pub k_pivot : PivotAsked m w k low r
   pub order : low.degree.0 ≤ high.degree.0

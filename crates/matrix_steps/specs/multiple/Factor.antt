@@ -13,10 +13,10 @@ leading_at m w r i x = coefficient_at m w r i x.index.0 x.degree.0
 
 -- c is a divided by b, f is -c, so that rows are only ever added to, and e is d
 pub record Divided (p a b d e c f : ℕ) : Type 0 where
-  pub e-is : e ≡ d
-  pub c-below : c < p
-  pub c-is : c * b % p ≡ a
-  pub f-is : f ≡ (p - c) % p
+  pub e_is : e ≡ d
+  pub c_below : c < p
+  pub c_is : c * b % p ≡ a
+  pub f_is : f ≡ (p - c) % p
 
 -- "Let e = D of l minus D of k, and c the leading coefficient of l's pivot divided by that of k's, mod p." The pivot of l is the high one.
 abbrev pub Factor : (p m w l k : ℕ) (high low : Pivot) (r : List ℕ) (e c f : ℕ) → Type 0

@@ -12,7 +12,7 @@ use Rattle.theory_algebra.specs.Prime.{Prime}
 use Rattle.theory_algebra.specs.Residue.{Zp}
 use Rattle.theory_algebra.specs.Series.{mono, const}
 use Rattle.theory_algebra.specs.Sum.{sum}
-use Rattle.theory_rings.specs.PrimeField.{zp-field}
+use Rattle.theory_rings.specs.PrimeField.{zp_field}
 use Rattle.theory_rings.proofs.PrimeField.{field-add, field-mul, field-zero}
 use Rattle.theory_rings.specs.Series.{series}
 use Rattle.theory_rings.proofs.Series.{add_at, mul_at, zero-at, mono-mul-low, mono-mul-high, const-mul-at}
@@ -24,7 +24,7 @@ use Rattle.poly.specs.arithmetic.Operations.{shifted, plus_multiple, MultipleAsk
 
 module _ (p : ℕ) (P : Prime p) where
   abbrev K : Field (Zp p)
-  K = zp-field p P
+  K = zp_field p P
 
   -- c·x^e times b added to a, where nothing falls outside
   pub holds-multiple : (reciprocal e : ℕ) (c : Zp p) (a b : List ℕ) (f g : ℕ → Zp p) → Holds p a f → Holds p b g

@@ -5,14 +5,14 @@ use native.Mathlib.Nat.{add-mod-mod}
 use Rattle.theory_algebra.specs.Field.{Field}
 use Rattle.theory_algebra.specs.Prime.{Prime}
 use Rattle.theory_algebra.specs.Residue.{Zp}
-use Rattle.theory_rings.specs.PrimeField.{zp-field}
+use Rattle.theory_rings.specs.PrimeField.{zp_field}
 use Rattle.theory_rings.proofs.PrimeField.{field-add, field-mul, field-neg, field-one}
 use Rattle.theory_algebra.proofs.Residue.{zp-path}
 use Rattle.poly.specs.residues.Modulus.{Inverse}
 
 module _ (p : ℕ) (P : Prime p) where
   abbrev K : Field (Zp p)
-  K = zp-field p P
+  K = zp_field p P
 
   -- a residue by its number
   by_number : (a r : Zp p) (v : ℕ) → a.val ≡ v → r.val ≡ v → r ≡ a

@@ -54,9 +54,9 @@ module _ (x p i : ℕ) (x_Fits : x < 4294967296) (ready : Ready p i) where
 
   pub product-fits : x * i < 2 ^ 64
   product-fits =
-      let i-fits : i ≤ 4294967296 = omega (arith, ready.reciprocal_is, div-le_self 4294967296 p) in
+      let i_fits : i ≤ 4294967296 = omega (arith, ready.reciprocal_is, div-le_self 4294967296 p) in
       let x-most : x ≤ 4294967295 = omega arith in
-      let h : x * i ≤ 4294967295 * 4294967296 = mul-le-mul x-most i-fits in
+      let h : x * i ≤ 4294967295 * 4294967296 = mul-le-mul x-most i_fits in
       omega arith
 
   pub quotient_fits : x * i / 4294967296 < 2 ^ 32

@@ -26,7 +26,7 @@ numbers c = numbers-fine c.in_default.is c.check_numbers.ensures
 -- and the largest room holds the matrix
 module _ {p n m d : ℕ} (known : Numbers p n m d) where
   few-cells : n * m ≤ 64
-  few-cells = mul-le-mul {n₁ = n} {m₁ = m} {n₂ = 8} {m₂ = 8} known.shape.rows-most known.shape.columns-most
+  few-cells = mul-le-mul {n₁ = n} {m₁ = m} {n₂ = 8} {m₂ = 8} known.shape.rows_most known.shape.columns_most
 
   few-places : places n m d ≤ 4096
   few-places = omega (arith, matrix-few (in_bounds known), mul_assoc n m (d + 1))
@@ -75,9 +75,9 @@ read_matrix-requires c =
     let known = numbers (goal.at.read_matrix-requires c).In_default in
     record {
       inside = c.requires.inside;
-      rows = known.shape.rows-most;
-      some-columns = known.shape.columns;
-      columns = known.shape.columns-most;
+      rows = known.shape.rows_most;
+      some_columns = known.shape.columns;
+      columns = known.shape.columns_most;
       degree = known.degree;
       places = length-take-le _ _ (within known _ c.requires.places);
     }

@@ -19,22 +19,22 @@ numbers : (c : tie.After-places2) → let args = (start c).args in Numbers args.
 numbers c = (start c).requires.numbers
 
 -- the places of R, U and V
-abbrev r-size : tie.After-places2 → ℕ
-r-size c = let args = (start c).args in args.n * (args.m * (args.d + 1))
+abbrev r_size : tie.After-places2 → ℕ
+r_size c = let args = (start c).args in args.n * (args.m * (args.d + 1))
 
-abbrev u-size : tie.After-places2 → ℕ
-u-size c = let args = (start c).args in args.n * (args.n * (args.n * (args.d + 1)))
+abbrev u_size : tie.After-places2 → ℕ
+u_size c = let args = (start c).args in args.n * (args.n * (args.n * (args.d + 1)))
 
-abbrev v-size : tie.After-places2 → ℕ
-v-size c = let args = (start c).args in args.n * (args.n * (args.d + 1))
+abbrev v_size : tie.After-places2 → ℕ
+v_size c = let args = (start c).args in args.n * (args.n * (args.d + 1))
 
-r-within : (c : tie.After-places2) → r-size c ≤ length c.before.before.places.result
+r-within : (c : tie.After-places2) → r_size c ≤ length c.before.before.places.result
 r-within c = omega (arith, matrix-few (in_bounds (numbers c)), c.before.before.places.ensures)
 
-u-within : (c : tie.After-places2) → u-size c ≤ length c.before.transform.result
+u-within : (c : tie.After-places2) → u_size c ≤ length c.before.transform.result
 u-within c = omega (arith, transform-few (in_bounds (numbers c)), c.before.transform.ensures)
 
-v-within : (c : tie.After-places2) → v-size c ≤ length c.places2.result
+v-within : (c : tie.After-places2) → v_size c ≤ length c.places2.result
 v-within c = omega (arith, square-few (in_bounds (numbers c)), c.places2.ensures)
 
 -- after the reduction
@@ -49,22 +49,22 @@ abbrev new : tie.After-reduce → List ℕ
 new c = c.reduce.new.1.1.1.1.1.0
 
 abbrev after : tie.After-reduce → List ℕ
-after c = new c ++ drop (r-size (made c)) (made c).before.before.places.result
+after c = new c ++ drop (r_size (made c)) (made c).before.before.places.result
 
-new-places : (c : tie.After-reduce) → length (new c) ≡ r-size (made c)
+new-places : (c : tie.After-reduce) → length (new c) ≡ r_size (made c)
 new-places c = c.reduce.auto.1.1.1.1.1.0 ∙ length-take-le _ _ (r-within (made c))
 
-after-within : (c : tie.After-reduce) → r-size (made c) ≤ length (after c)
-after-within c = omega (arith, r-within (made c), length_front _ (new c) (r-size (made c)) c.reduce.auto.1.1.1.1.1.0)
+after-within : (c : tie.After-reduce) → r_size (made c) ≤ length (after c)
+after-within c = omega (arith, r-within (made c), length_front _ (new c) (r_size (made c)) c.reduce.auto.1.1.1.1.1.0)
 
 -- it was not refused
 result : (c : tie.After-reduce) → let args = (start (made c)).args in
-    ReducedTo args.p args.n args.m args.d args.a.now (take (r-size (made c)) (after c)) c.reduce.result
+    ReducedTo args.p args.n args.m args.d args.a.now (take (r_size (made c)) (after c)) c.reduce.result
 result c =
     let at = made c in
     let args = (start at).args in
     subst⁻¹ (λ (l : List ℕ). ReducedTo args.p args.n args.m args.d args.a.now l c.reduce.result)
-    (take_at _ _ (r-size at) (new-places c))
+    (take_at _ _ (r_size at) (new-places c))
     (reduced-to (start at).pre (length-take-le _ _ (r-within at)) (length-take-le _ _ (u-within at)) (length-take-le _ _ (v-within at))
     c.reduce.result c.reduce.ensures)
 

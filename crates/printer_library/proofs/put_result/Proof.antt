@@ -85,9 +85,9 @@ put-answer-requires c κs =
     let numbers = asked.matrix.numbers in
     record {
       matrix = record {
-        rows = numbers.shape.rows-most;
-        some-columns = numbers.shape.columns;
-        columns = numbers.shape.columns-most;
+        rows = numbers.shape.rows_most;
+        some_columns = numbers.shape.columns;
+        columns = numbers.shape.columns_most;
         degree = numbers.degree;
         places = (answerable determined).result-size;
       };

@@ -12,7 +12,7 @@ use Rattle.matrix_determinant.proofs.first_columns.reduce_columns.Goals.{In-Rows
 
 rows_next : (c : In-Rows) → let args = c.args in
     IsNextOf (suc args.m) args.m (values_of args.m args.w c.loop-l.r) (Rows c.in-Rows.l c.in-Rows.k)
-rows_next c = next-is _ _ _ _ c.loop-l.invariant.pivots-are (Rows c.in-Rows.l c.in-Rows.k) _ (rw add-one at c.in-Rows.ensures) refl
+rows_next c = next-is _ _ _ _ c.loop-l.invariant.pivots_are (Rows c.in-Rows.l c.in-Rows.k) _ (rw add-one at c.in-Rows.ensures) refl
 
 pub all-pivots-requires : goal.all-pivots-requires
 all-pivots-requires c = rw add-one (Columns.matrix-asked c.requires)
@@ -26,7 +26,7 @@ next_rows-requires c = rw add-one (Columns.next-asked c.loop-l.invariant)
 pub returns-in_default : goal.returns-in_default
 returns-in_default c =
     let inv = c.loop-l.invariant in
-    Columns.going-stop inv (next-is _ _ _ _ inv.pivots-are _ _ (rw add-one at c.next_rows.ensures) c.in_default.is)
+    Columns.going-stop inv (next-is _ _ _ _ inv.pivots_are _ _ (rw add-one at c.next_rows.ensures) c.in_default.is)
 
 pub offset_bounds-pivots-k : goal.offset_bounds-pivots-k
 offset_bounds-pivots-k c = omega (arith, Columns.rows_fit c.loop-l.invariant (rows_next (goal.at.offset_bounds-pivots-k c).In-Rows))

@@ -45,7 +45,7 @@ copy-requires c =
 
 pub overflow_add-m : goal.overflow_add-m
 overflow_add-m c =
-    omega (arith, c.requires.sizes.columns-most)
+    omega (arith, c.requires.sizes.columns_most)
 
 pub degree_sum-requires : goal.degree_sum-requires
 degree_sum-requires c =

@@ -47,9 +47,9 @@ returns c =
     record {
       c = c.coefficient-c.result.0;
       f = c.inverse-f.result.0;
-      c-is = divisor-is c.requires (some c.is_zero_row.ensures c.if-is_zero_row.false) c.coefficient-c.ensures;
+      c_is = divisor-is c.requires (some c.is_zero_row.ensures c.if-is_zero_row.false) c.coefficient-c.ensures;
       inverse = c.inverse-f.ensures;
-      r-divided = c.scale_row.ensures;
-      u-divided = c.scale_row-2.ensures;
-      v-multiplied = search rules;
+      r_divided = c.scale_row.ensures;
+      u_divided = c.scale_row-2.ensures;
+      v_multiplied = search rules;
     }

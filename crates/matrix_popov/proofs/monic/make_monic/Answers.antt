@@ -9,10 +9,10 @@ pub loop-i-init : goal.loop-i-init
 loop-i-init c = search (rules, dividing-start)
 
 pub offset_bounds-pivots-i : goal.offset_bounds-pivots-i
-offset_bounds-pivots-i c = omega (arith, c.requires.bounds.rows-most)
+offset_bounds-pivots-i c = omega (arith, c.requires.bounds.rows_most)
 
 pub bounds-pivots-i : goal.bounds-pivots-i
-bounds-pivots-i c = omega (arith, c.requires.bounds.rows-most)
+bounds-pivots-i c = omega (arith, c.requires.bounds.rows_most)
 
 pub divide_row-requires : goal.divide_row-requires
 divide_row-requires c = search (rules, row-asked)

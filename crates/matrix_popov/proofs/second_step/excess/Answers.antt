@@ -12,7 +12,7 @@ use Rattle.matrix_popov.proofs.second_step.excess.Goals as goal
 
 -- the cell lies in the row
 inside : {m w k x h j : ℕ} {r : List ℕ} → CoefficientAsked m w k x h r → j ≡ x - 1 → k * (m * w) + j * w + w ≤ length r
-inside {m} {w} {k} {x} {j = j} asked is = omega (arith, asked.row, line-end j m w (omega (arith, asked.column, asked.column-most)))
+inside {m} {w} {k} {x} {j = j} asked is = omega (arith, asked.row, line-end j m w (omega (arith, asked.column, asked.column_most)))
 
 -- what is lent is the cell
 places-are : (m w k j : ℕ) (r : List ℕ) → let s = k * (m * w) + j * w in used_places (take (s + w - s) (drop s r)) ≡ used_places (cell_of m w r k j)

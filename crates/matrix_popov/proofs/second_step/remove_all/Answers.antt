@@ -9,10 +9,10 @@ pub loop-k-init : goal.loop-k-init
 loop-k-init c = (c.requires.bounds.rows, cleared-start c.requires)
 
 pub offset_bounds-pivots-k : goal.offset_bounds-pivots-k
-offset_bounds-pivots-k c = omega (arith, c.requires.bounds.rows-most)
+offset_bounds-pivots-k c = omega (arith, c.requires.bounds.rows_most)
 
 pub bounds-pivots-k : goal.bounds-pivots-k
-bounds-pivots-k c = omega (arith, c.requires.bounds.rows-most)
+bounds-pivots-k c = omega (arith, c.requires.bounds.rows_most)
 
 pub shape_of-r-then-is_zero_row : goal.shape_of-r-then-is_zero_row
 shape_of-r-then-is_zero_row c = (cleared-lengths c.requires c.loop-k.invariant.1).0

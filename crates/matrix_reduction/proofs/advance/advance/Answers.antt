@@ -9,8 +9,8 @@ pub overflow_add-top : goal.overflow_add-top
 overflow_add-top c =
     let n = c.args.n in
     let w = c.args.w in
-    let rows : 0 < n = omega (arith, c.requires.move.l-fits) in
-    omega (arith, c.requires.move.v-size, one_line n w rows, one_line n (n * w) rows)
+    let rows : 0 < n = omega (arith, c.requires.move.l_fits) in
+    omega (arith, c.requires.move.v_size, one_line n w rows, one_line n (n * w) rows)
 
 pub follow-requires : goal.follow-requires
 follow-requires c =

@@ -30,7 +30,7 @@ overflow_add-rows c =
     let inv = c.loop-i.invariant in
     omega (
       arith,
-      inv.rows-most,
+      inv.rows_most,
       bit-few c.requires inv c.loop-i-test.true,
       entry-few c.requires inv c.loop-i-test.true c.used.ensures.0 c.bit_if_used-rows.ensures,
     )

@@ -12,7 +12,7 @@ use Rattle.matrix_reduction.proofs.single.once.Goals.{After-lower-arg-1, After-l
 -- the rows of the step
 next : (c : In-Rows) → let args = c.args in
     IsNextOf args.n args.m (values_of args.m args.w args.r.now) (Rows c.in-Rows.l c.in-Rows.k)
-next c = next-is _ _ _ _ c.all-pivots.ensures.pivots-are _ _ c.next_rows.ensures c.in-Rows.is
+next c = next-is _ _ _ _ c.all-pivots.ensures.pivots_are _ _ c.next_rows.ensures c.in-Rows.is
 
 fits : (c : In-Rows) → (c.in-Rows.l < 8) × (c.in-Rows.k < 8)
 fits c = let input = c.requires in rows_fit input (alone-start input c.all-pivots.ensures) (next c)
@@ -23,7 +23,7 @@ next_rows-requires c = let input = c.requires in next-asked input (alone-start i
 pub returns-in_default : goal.returns-in_default
 returns-in_default c =
     stepped-none c.requires
-    (next-is _ _ _ _ c.all-pivots.ensures.pivots-are _ _ c.next_rows.ensures c.in_default.is)
+    (next-is _ _ _ _ c.all-pivots.ensures.pivots_are _ _ c.next_rows.ensures c.in_default.is)
 
 pub offset_bounds-pivots-l : goal.offset_bounds-pivots-l
 offset_bounds-pivots-l c = omega (arith, fits (goal.at.offset_bounds-pivots-l c).In-Rows)

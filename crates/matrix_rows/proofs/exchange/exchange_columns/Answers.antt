@@ -16,9 +16,9 @@ module _ (n w x y : ℕ) (v₀ v : List ℕ) (pre : TwoColumns n w x y v₀) (i 
     (done : CellsExchanged w i (λ j. spot n w j x) (λ j. spot n w j y) v₀ v) (li : i < n) where
   parts : TwoParts w (i * (n * w) + x * w) (i * (n * w) + y * w) v
   parts = record {
-    one-fits = omega (arith, done.size, pre.size, cell-ends w li pre.x_fits);
-    other_fits = omega (arith, done.size, pre.size, cell-ends w li pre.y-fits);
-    apart = λ t u lt lu same. pre.differ (spot-own n w i x t i y u pre.x_fits lt pre.y-fits lu (omega arith)).1.0;
+    one_fits = omega (arith, done.size, pre.size, cell-ends w li pre.x_fits);
+    other_fits = omega (arith, done.size, pre.size, cell-ends w li pre.y_fits);
+    apart = λ t u lt lu same. pre.differ (spot-own n w i x t i y u pre.x_fits lt pre.y_fits lu (omega arith)).1.0;
   }
 
   -- they have no place in common with the cells of the rows before
@@ -28,8 +28,8 @@ module _ (n w x y : ℕ) (v₀ v : List ℕ) (pre : TwoColumns n w x y v₀) (i 
   turn : (v' : List ℕ) → CellsExchanged w 1 (λ _. spot n w i x) (λ _. spot n w i y) v v'
       → CellsExchanged w (i + 1) (λ j. spot n w j x) (λ j. spot n w j y) v₀ v'
   turn v' = next-exchanged
-      (λ t lt. (away x x t pre.x_fits pre.x_fits lt, away x y t pre.x_fits pre.y-fits lt))
-      (λ t lt. (away y x t pre.y-fits pre.x_fits lt, away y y t pre.y-fits pre.y-fits lt)) done
+      (λ t lt. (away x x t pre.x_fits pre.x_fits lt, away x y t pre.x_fits pre.y_fits lt))
+      (λ t lt. (away y x t pre.y_fits pre.x_fits lt, away y y t pre.y_fits pre.y_fits lt)) done
 
 pub loop-i-init : goal.loop-i-init
 loop-i-init c = (omega arith, none-exchanged)
@@ -50,11 +50,11 @@ overflow_add-row c =
 
 pub overflow_mul-y : goal.overflow_mul-y
 overflow_mul-y c =
-    omega (arith, cell-ends c.args.w c.loop-i-test.true c.requires.y-fits)
+    omega (arith, cell-ends c.args.w c.loop-i-test.true c.requires.y_fits)
 
 pub overflow_add-row-in-loop-i : goal.overflow_add-row-in-loop-i
 overflow_add-row-in-loop-i c =
-    omega (arith, cell-ends c.args.w c.loop-i-test.true c.requires.y-fits)
+    omega (arith, cell-ends c.args.w c.loop-i-test.true c.requires.y_fits)
 
 pub exchange_parts-requires : goal.exchange_parts-requires
 exchange_parts-requires c = search (rules, parts)

@@ -11,8 +11,8 @@ use Rattle.matrix_rows.proofs.exchange.exchange_rows.Goals as goal
 -- each row is one cell of m * w places
 parts : (m w i j : ℕ) (b : List ℕ) → TwoRows m w i j b → TwoParts (m * w) (i * (m * w)) (j * (m * w)) b
 parts m w i j b pre = record {
-  one-fits = pre.i-fits;
-  other_fits = pre.j-fits;
+  one_fits = pre.i_fits;
+  other_fits = pre.j_fits;
   apart = λ t u lt lu same. pre.differ (block-own (m * w) i t j u lt lu same).0;
 }
 

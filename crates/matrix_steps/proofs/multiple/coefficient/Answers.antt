@@ -11,8 +11,8 @@ use Rattle.matrix_steps.proofs.multiple.coefficient.Goals.{After-degree-t}
 inside : (c : After-degree-t) → let args = c.args in c.column-j.result * args.w + c.degree-t.result < args.m * args.w
 inside c =
     let pre = c.requires in
-    within _ _ _ _ (omega (arith, c.column-j.ensures, pre.column, pre.column-most))
-    (omega (arith, c.degree-t.ensures, pre.height, pre.height-most))
+    within _ _ _ _ (omega (arith, c.column-j.ensures, pre.column, pre.column_most))
+    (omega (arith, c.degree-t.ensures, pre.height, pre.height_most))
 
 pub overflow_mul-j : goal.overflow_mul-j
 overflow_mul-j c = omega (arith, inside (goal.at.overflow_mul-j c).After-degree-t, c.requires.row)
