@@ -3,7 +3,7 @@ use Prim.Native.Nat.{ℕ, ◌+◌, ◌-◌, ◌≤◌, ◌<◌}
 use mathlib.Core.Path.{◌≡◌, refl, sym, ◌∙◌}
 use mathlib.Core.Bool.{Bool, true, false, ◌&&◌, and-eq-true_iff, false≢true}
 use mathlib.Core.List.{List, [], ◌∷◌}
-use native.Mathlib.Nat.{add_assoc}
+use native.Mathlib.Nat.{add-zero, add_assoc}
 use native.Mathlib.Omega.{arith}
 use lib.ListN.{length, get_or, drop, length-drop, drop_of_length-le}
 use lib.Dec.{eqb}
@@ -33,6 +33,9 @@ module _ (s : List ℕ) (at : ℕ) (key : List ℕ) where
   pub record Comparing (i : ℕ) : Type 0 where
     pub to : i ≤ length key
     pub same : starts_with key (drop at s) ≡ starts_with (drop i key) (drop (at + i) s)
+
+  pub comparing-start : Comparing 0
+  comparing-start = record { to = omega arith; same = rw add-zero }
 
   module _ (fits : at + length key ≤ length s) (i : ℕ) (r : Comparing i) where
     module _ (before : i < length key) where

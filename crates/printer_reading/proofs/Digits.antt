@@ -95,6 +95,9 @@ module _ (s : List ℕ) (at n : ℕ) (asked : DigitsAt s at n) where
   pub plain-first : n ≢ 1 → is_plain (digits_of (drop at s)) ≡ ltb (digit 0) (get_or s at 0)
   plain-first ne = rw (ne_eqb (length (digits_of (drop at s))) 1 (λ e. ne (asked.count ∙ e)), first-here.more)
 
+  pub valuing-start : Valuing s at n 0 0
+  valuing-start = record { left = rw add-zero (omega (arith, asked.count)); same = rw add-zero; low = omega arith }
+
   module _ (v k : ℕ) (r : Valuing s at n v k) where
     module _ (before : k < n) where
       pub next_here : Here s (at + k)

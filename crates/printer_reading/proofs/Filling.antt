@@ -3,13 +3,14 @@ use Prim.Native.Nat.{ℕ, suc, ◌+◌, ◌-◌, ◌≤◌, ◌<◌}
 use mathlib.Core.Path.{◌≡◌, sym, ap, ◌∙◌}
 use mathlib.Core.Bool.{true, false}
 use mathlib.Core.List.{List, [], ◌∷◌, ◌++◌, append-nil}
+use native.Mathlib.Nat.{sub-zero}
 use native.Mathlib.Numerals.{add-one}
 use native.Mathlib.Omega.{arith}
 use lib.ListN.{length, take, drop, set, length-set}
 use lib.Seq.{drop-drop, take_all, take-suc-set}
 use Rattle.printer_format.specs.Number.{bad, number}
 use Rattle.printer_format.specs.Line.{mark, starts_with, prefixed, numbers}
-use Rattle.printer_format.proofs.Line.{prefixed-append, numbers-next, numbers-unmarked, numbers-bad}
+use Rattle.printer_format.proofs.Line.{prefixed-nil, prefixed-append, numbers-next, numbers-unmarked, numbers-bad}
 use Rattle.printer_reading.specs.Read.{Took}
 use Rattle.printer_reading.proofs.Comparing.{key-inside}
 
@@ -20,6 +21,9 @@ module _ (s : List ℕ) (at count : ℕ) where
     pub to : k ≤ count
     pub inside : i ≤ length s
     pub same : numbers count (drop at s) ≡ prefixed (take k room) (numbers (count - k) (drop i s))
+
+  pub filling-start : (room : List ℕ) → length room ≡ count → at ≤ length s → Filling at 0 room
+  filling-start room size inside = record { size = size; to = omega arith; inside = inside; same = rw sub-zero (sym (prefixed-nil _)) }
 
   module _ (i k : ℕ) (room : List ℕ) (r : Filling i k room) where
     pub filling-end : count ≤ k → Took (numbers count (drop at s)) s room i

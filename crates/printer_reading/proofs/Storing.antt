@@ -2,7 +2,7 @@
 use Prim.Native.Nat.{ℕ, suc, ◌+◌, ◌*◌, ◌-◌, ◌≤◌, ◌<◌}
 use mathlib.Core.Path.{◌≡◌, sym, ap, ◌∙◌}
 use mathlib.Core.List.{List, ◌++◌, append-nil, append_assoc}
-use native.Mathlib.Nat.{suc-mul}
+use native.Mathlib.Nat.{sub-zero, suc-mul, zero-mul}
 use native.Mathlib.Numerals.{add-one}
 use native.Mathlib.Omega.{arith}
 use lib.ListN.{length, take, drop, length-append, length-take, length-drop}
@@ -10,7 +10,7 @@ use lib.Seq.{take_all, take_at}
 use Rattle.theory_lists.proofs.Grid.{line-end}
 use Rattle.printer_format.specs.Number.{Got, bad}
 use Rattle.printer_format.specs.Line.{behind, read_lines}
-use Rattle.printer_format.proofs.Line.{behind-append, lines_next, lines-wrong}
+use Rattle.printer_format.proofs.Line.{behind-nil, behind-append, lines_next, lines-wrong}
 use Rattle.printer_reading.specs.Read.{Took, TookCells, Missed}
 
 module _ (reader : ℕ → List ℕ → Got (List ℕ)) (s : List ℕ) (at count width : ℕ) where
@@ -21,6 +21,10 @@ module _ (reader : ℕ → List ℕ → Got (List ℕ)) (s : List ℕ) (at count
     pub place : a ≡ c * width
     pub inside : i ≤ length s
     pub same : read_lines reader count 0 (drop at s) ≡ behind (take a room) (read_lines reader (count - c) c (drop i s))
+
+  pub storing-start : (room : List ℕ) → length room ≡ count * width → at ≤ length s → Storing at 0 0 room
+  storing-start room size inside =
+      record { size = size; to = omega arith; place = sym (zero-mul width); inside = inside; same = rw sub-zero (sym (behind-nil _)) }
 
   module _ (i c a : ℕ) (room : List ℕ) (r : Storing i c a room) where
     pub storing-end : count ≤ c → TookCells (read_lines reader count 0 (drop at s)) s room i
