@@ -24,7 +24,7 @@ class Wrong(NamedTuple):
     function: str
     what: str
     shown: str  # an input, and the two answers
-    changes: list  # of each: file, old text, new text
+    changes: tuple  # of each: file, old text, new text
     proof: Optional[str]  # the function whose proof has to fail, as its crate names it; None for a definition
 
     @property
@@ -54,7 +54,7 @@ def part(crate, name, text):
         if key == "new":
             changes.append((said.get("file", ""), said.get("old", ""), said["new"]))
     what, _, shown = said.get("wrong", "").partition("; ")
-    return Wrong(crate, name, said.get("function", ""), what, shown, changes, said.get("proof") or changed_function(crate, changes))
+    return Wrong(crate, name, said.get("function", ""), what, shown, tuple(changes), said.get("proof") or changed_function(crate, changes))
 
 
 def rounds():
@@ -70,6 +70,19 @@ def wrong_answers():
         yield from parts
 
 
+def changed_texts(crate, parts, amiss=None):
+    """The texts of a crate's files with all changes of some wrong answers. Those that cannot be made are added to `amiss`."""
+    texts = {}
+    for wrong in parts:
+        for file, old, new in wrong.changes:
+            path = CRATES / crate / file
+            text = texts.get(file) or (path.read_text() if path.is_file() else "")
+            if amiss is not None and text.count(old) != 1:
+                amiss.append((wrong, f"its `old:` text stands {text.count(old)} times in {file}: {old}"))
+            texts[file] = text.replace(old, new)
+    return texts
+
+
 def faults(parts):
     """What is amiss with the parts of one file, before any check."""
     for wrong in parts:
@@ -82,3 +95,6 @@ def faults(parts):
             yield wrong, "it is in no function's body, so it has to stand alone"
         if wrong.proof is not None and sum(other.proof == wrong.proof for other in parts) > 1:
             yield wrong, f"{wrong.proof} is made wrong twice in one round"
+    amiss = []
+    changed_texts(parts[0].crate, parts, amiss)
+    yield from amiss
