@@ -26,7 +26,7 @@ USES = {crate: [used for used in uses if (CRATES / used).is_dir()] for _, crates
 
 class Tried(NamedTuple):
     log: str
-    verdict: str  # proved, not-proved, or how else the check ended
+    verdict: str  # proved, not-proved, or why the prover was not reached
     functions: dict  # of each function, as its crate names it, what the prover says of it
     edited: set  # the changed lines: file, number
 
@@ -37,7 +37,7 @@ def below(crate):
 
 
 def say(what):
-    print(f"must_fail_reasons: {what}", file=sys.stderr, flush=True)
+    sys.stderr.write(f"must_fail_reasons: {what}\n")  # in one piece, for several checks say something at once
 
 
 def ready(crates):
@@ -144,4 +144,5 @@ def check(crate, name, number, parts):
     for file, text in texts.items():
         lines = zip((CRATES / crate / file).read_text().splitlines(), text.splitlines())
         edited |= {(file, line) for line, (old, new) in enumerate(lines, 1) if old != new}
-    return Tried(log, verdicts[-1] if verdicts else log.strip().rpartition("\n")[2], functions, edited)
+    ended = re.findall(r"(?m)^.*\berror\[.*", log) + log.splitlines()[-1:]
+    return Tried(log, (verdicts or ended)[0], functions, edited)
