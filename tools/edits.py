@@ -6,7 +6,7 @@ A file crates/CRATE/must-fail/NAME.edit has one or more parts, each a wrong answ
     wrong: what is wrong; an input: the answer that it gets then, right is the other
     proof: the function whose proof has to fail, only where the changed line stands in no function's body
     file: a source of the crate
-    old: a part of one line of it that occurs once
+    old: a part of one line of it that occurs once, with the spaces that it begins with
     new: what stands there instead
 
 The parts of one file are tried together in one check, a round: each function's proof is checked by itself. So a round
@@ -50,7 +50,7 @@ def part(crate, name, text):
     said, changes = {}, []
     for line in text.splitlines():
         key, _, value = line.partition(":")
-        said[key] = value.strip() if key != "new" else value.removeprefix(" ")
+        said[key] = value.removeprefix(" ") if key in ("old", "new") else value.strip()
         if key == "new":
             changes.append((said.get("file", ""), said.get("old", ""), said["new"]))
     what, _, shown = said.get("wrong", "").partition("; ")
