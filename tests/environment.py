@@ -24,8 +24,6 @@ def emulated():
 
 
 def program(name):
-    """The path of a program that rt has made, below the top folder, so that this machine can run it."""
+    """The path of a program below the top folder, where tools/program makes it, so that this machine can run it."""
     programs, _ = clean()
-    if emulated():
-        subprocess.run(["tools/emulated/make", "program", name], cwd=TOP, check=True)
     return f"{programs}/{name}"

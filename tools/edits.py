@@ -6,7 +6,7 @@ A file crates/CRATE/must-fail/NAME.edit has one or more parts, each a wrong answ
     wrong: what is wrong; an input: the answer that it gets then, right is the other
     proof: the function whose proof has to fail, only where the changed line stands in no function's body
     file: a source of the crate
-    old: a part of one line of it that occurs once
+    old: a part of one line of it that occurs once, with the spaces that it begins with
     new: what stands there instead
 
 The parts of one file are tried together in one check, a round: each function's proof is checked by itself. So a round
@@ -24,7 +24,7 @@ class Wrong(NamedTuple):
     function: str
     what: str
     shown: str  # an input, and the two answers
-    changes: list  # of each: file, old text, new text
+    changes: tuple  # of each: file, old text, new text
     proof: Optional[str]  # the function whose proof has to fail, as its crate names it; None for a definition
 
     @property
@@ -50,11 +50,11 @@ def part(crate, name, text):
     said, changes = {}, []
     for line in text.splitlines():
         key, _, value = line.partition(":")
-        said[key] = value.strip() if key != "new" else value.removeprefix(" ")
+        said[key] = value.removeprefix(" ") if key in ("old", "new") else value.strip()
         if key == "new":
             changes.append((said.get("file", ""), said.get("old", ""), said["new"]))
     what, _, shown = said.get("wrong", "").partition("; ")
-    return Wrong(crate, name, said.get("function", ""), what, shown, changes, said.get("proof") or changed_function(crate, changes))
+    return Wrong(crate, name, said.get("function", ""), what, shown, tuple(changes), said.get("proof") or changed_function(crate, changes))
 
 
 def rounds():
@@ -70,6 +70,19 @@ def wrong_answers():
         yield from parts
 
 
+def changed_texts(crate, parts, amiss=None):
+    """The texts of a crate's files with all changes of some wrong answers. Those that cannot be made are added to `amiss`."""
+    texts = {}
+    for wrong in parts:
+        for file, old, new in wrong.changes:
+            path = CRATES / crate / file
+            text = texts.get(file) or (path.read_text() if path.is_file() else "")
+            if amiss is not None and text.count(old) != 1:
+                amiss.append((wrong, f"its `old:` text stands {text.count(old)} times in {file}: {old}"))
+            texts[file] = text.replace(old, new)
+    return texts
+
+
 def faults(parts):
     """What is amiss with the parts of one file, before any check."""
     for wrong in parts:
@@ -82,3 +95,6 @@ def faults(parts):
             yield wrong, "it is in no function's body, so it has to stand alone"
         if wrong.proof is not None and sum(other.proof == wrong.proof for other in parts) > 1:
             yield wrong, f"{wrong.proof} is made wrong twice in one round"
+    amiss = []
+    changed_texts(parts[0].crate, parts, amiss)
+    yield from amiss

@@ -6,6 +6,7 @@ way, or is re-exported from such a place by `pub use`, itself or its type. Its p
 after the crate's: `Type::function`, `function` or `module::function`.
 """
 import re
+from functools import lru_cache
 from pathlib import Path
 from typing import NamedTuple
 
@@ -39,18 +40,20 @@ class Function(NamedTuple):
     def silent(self):
         """The buffers lent to be written of which `ensures` does not say what they hold at exit."""
         lent = re.findall(r"(\w+): &mut", " ".join(self.head))
-        return [buffer for buffer in lent if not any(f"({buffer} .exit)" in clause for clause in self.clauses("ensures"))]
+        return [buffer for buffer in lent if not any(re.search(rf"\b{buffer}\.new\b", clause) for clause in self.clauses("ensures"))]
 
 
+@lru_cache(None)
 def layers():
-    """The layers of crates.txt from the bottom up: of each its comment, and its crates with those that they use."""
+    """The layers of crates.txt from the bottom up: of each its comment, and its crates with those that they use. A crate's name stands
+    first in its line, and `staticlib` may follow it."""
     found = []
     for line in (TOP / "crates.txt").read_text().splitlines():
         if line.startswith("#"):
             found.append((line.lstrip("# "), {}))
         elif line.strip():
-            name, _, uses = line.partition(":")
-            found[-1][1][name.strip()] = uses.split()
+            named, _, uses = line.partition(":")
+            found[-1][1][named.split()[0]] = uses.split()
     return found
 
 
@@ -95,8 +98,9 @@ def public_paths(crate):
     for path in modules:
         text = (CRATES / crate / "src" / ("/".join(path) or "lib")).with_suffix(".rt").read_text()
         modules += [[*path, name] for name in re.findall(r"(?m)^pub mod (\w+);", text)]
-        for inner in re.findall(r"(?m)^pub use ([\w:]+);", text):
-            exported["::".join([*path, *inner.split("::")])] = "::".join([*path, inner.split("::")[-1]])
+        for inside, names in re.findall(r"(?m)^pub use ([\w:]+)(?:::\{([^}]*)\})?;", text):
+            for inner in [f"{inside}::{name.strip()}" for name in names.split(",") if name.strip()] or [inside]:
+                exported["::".join([*path, *inner.split("::")])] = "::".join([*path, inner.split("::")[-1]])
     return modules, exported
 
 

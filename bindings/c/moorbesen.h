@@ -1,7 +1,7 @@
 /* Moorbesen for programs in C: the weak Popov form of a matrix of polynomials over Z/p, one step of it, the Popov form
  * and the determinant.
  *
- * Link with target/staticlib/libmoorbesen.a, which `rt staticlib moorbesen` makes.
+ * Link with target/staticlib/libmoorbesen.a, which `tools/library moorbesen` makes.
  *
  * A matrix has n rows and m columns. A cell is a polynomial of degree at most d, in d + 1 places, constant term
  * first; zeros are never left out. Cells stand row after row, in each row column after column. A coefficient is a

@@ -1,4 +1,4 @@
-//! Links libmoorbesen.a, which `rt staticlib moorbesen` makes, from the directory named by MOORBESEN_LIB, else from
+//! Links libmoorbesen.a, which `tools/library moorbesen` makes, from the directory named by MOORBESEN_LIB, else from
 //! target/staticlib of this repository.
 
 use std::path::Path;
@@ -12,7 +12,7 @@ fn main() {
     println!("cargo:rerun-if-env-changed=MOORBESEN_LIB");
     println!("cargo:rerun-if-changed={}", library.display());
     if !library.is_file() {
-        eprintln!("there is no {}: run `rt staticlib moorbesen`", library.display());
+        eprintln!("there is no {}: run `tools/library moorbesen`", library.display());
         std::process::exit(1);
     }
     println!("cargo:rustc-link-search=native={}", directory.display());

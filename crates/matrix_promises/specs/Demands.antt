@@ -21,7 +21,7 @@ pub record OneAnswer (S : Service) : Type 0 where
 abbrev pub Demand1 : Type 0
 Demand1 = OneAnswer reduction × OneAnswer single_step × OneAnswer popov_form × OneAnswer determinant
 
--- "The result is the weak Popov form of the report, by its simple transformations in paper 01's fixed order. U-as-A = R, V-as-R = A, U-as-V = V-as-U =
+-- "The result is the weak Popov form of the report, by its simple transformations in paper 01's fixed order. U·A = R, V·R = A, U·V = V·U =
 -- identity. Rank, determinant, Popov form and counts are those of their definitions": the promises say that they are what the definitions
 -- give (`Reduced`, `Popov`, `Determinant`), and of every call that is done the facts hold.
 pub record Demand2 : Type 0 where

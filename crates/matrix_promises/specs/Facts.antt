@@ -37,7 +37,7 @@ module _ (c : WholeCall) (P : Prime c.p) (some : 0 < c.p) where
     pub t : Carried (Zp c.p)
     pub holding : Holding c.p c.n c.m (c.d + 1) x.r x.u x.v t
     pub weak_popov : WeakPopov K.ring c.n c.m t.R
-    -- U-as-A = R, V-as-R = A, U-as-V = V-as-U = 1
+    -- U·A = R, V·R = A, U·V = V·U = 1
     pub transformed : Transformed K.ring c.n c.m (input_of c some) t.R t.U t.V'
     pub in_bounds : InBounds K c.n c.d t
     -- "the rank of A (the largest number of rows of A of which no polynomial combination vanishes but the trivial one)"
@@ -54,7 +54,7 @@ module _ (c : WholeCall) (P : Prime c.p) (some : 0 < c.p) where
     pub t : Carried (Zp c.p)
     pub holding : Holding c.p c.n c.m (c.d + 1) x.r x.u x.v t
     pub form : PopovForm K.ring c.n c.m t.R
-    -- U-as-A = P, V-as-P = A, U-as-V = V-as-U = 1
+    -- U·A = P, V·P = A, U·V = V·U = 1
     pub transformed : Transformed K.ring c.n c.m (input_of c some) t.R t.U t.V'
     pub in_bounds : InBounds K c.n c.d t
     -- the rank is that of A, and P has as many rows that are not zero

@@ -1,4 +1,4 @@
--- "U and V follow every move": ordering, the steps of the second kind and scaling keep U-as-A = R, V-as-R = A, U-as-V = V-as-U = 1
+-- "U and V follow every move": ordering, the steps of the second kind and scaling keep U·A = R, V·R = A, U·V = V·U = 1
 -- and the bounds on the degrees of U and V.
 use mathlib.Core.Path.{◌≡◌, refl, ap}
 use Prim.Native.Nat.{ℕ, ◌-◌, ◌<◌}

@@ -15,7 +15,7 @@ pub record PopovFacts {F : Type 0} (K : Field F) (n m size : ℕ) (A : ℕ → R
   pub reduction : ReductionFacts K n m size A first weak
   pub form : PopovForm K.ring n m t.R
   pub bounded : AllBounded K.ring n m size t.R
-  -- U-as-A = P, V-as-P = A, U-as-V = V-as-U = 1
+  -- U·A = P, V·P = A, U·V = V·U = 1
   pub transformed : Transformed K.ring n m A t.R t.U t.V'
   -- "U needs no degree above n(d+1)-1 and V none above d": for U the sharp bound (n-1)d
   pub u_degrees : (i j : ℕ) → i < n → j < n → Below K.ring (t.U i j) (suc ((n - 1) * (size - 1)))

@@ -1,4 +1,4 @@
--- The reduction keeps U-as-A = R, V-as-R = A, U-as-V = V-as-U = 1.
+-- The reduction keeps U·A = R, V·R = A, U·V = V·U = 1.
 use Prim.Native.Nat.{ℕ}
 use Rattle.theory_algebra.specs.Field.{Field}
 use Rattle.theory_lattice.specs.Row.{Row}

@@ -14,7 +14,7 @@ use Rattle.theory_reduction.specs.Rank.{Independent, IsRank, rank}
 pub record ReductionFacts {F : Type 0} (K : Field F) (n m size : ℕ) (A : ℕ → Row F) (count : ℕ) (t : Carried F) : Type 0 where
   pub weak_popov : WeakPopov K.ring n m t.R
   pub bounded : AllBounded K.ring n m size t.R
-  -- U-as-A = R, V-as-R = A, U-as-V = V-as-U = 1
+  -- U·A = R, V·R = A, U·V = V·U = 1
   pub transformed : Transformed K.ring n m A t.R t.U t.V'
   -- "U needs no degree above n(d+1)-1 and V none above d": for U the sharp bound (n-1)d
   pub u_degrees : (i j : ℕ) → i < n → j < n → Below K.ring (t.U i j) (suc ((n - 1) * (size - 1)))
