@@ -7,7 +7,7 @@ use matrix_steps::multiple;
 use poly::Modulus;
 
 // "Divide each non-zero row by its pivot's leading coefficient; zero rows stay", for they have none. What row i of R loses,
-// column i of V takes, so that V.R = A still holds.
+// column i of V takes, so that V·R = A still holds.
 fn divide_row(
     r: &mut [u16],
     u: &mut [u16],
