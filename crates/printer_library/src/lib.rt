@@ -1,5 +1,6 @@
 // The printer: a text in, a text out.
 #![tactic(auto)]
+
 ghost use Rattle.std.specs.Prelude.{◌≡◌, length};
 ghost use Rattle.matrix_refusals.specs.Number.{number_of, place_of};
 ghost use Rattle.printer_format.specs.Answer.{refusal_text};
