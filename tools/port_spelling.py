@@ -106,6 +106,9 @@ zeroRow zero_row
 """.split("\n") if line)
 # whole names of definitions and of fields, whose words a dash joined
 WHOLE = dict(line.split() for line in """
+New-is new_is
+get_d_part get_or-part
+get_d_past get_or-past
 advance-pair advance_pair
 c-below c_below
 c-is c_is

@@ -12,7 +12,7 @@ use Rattle.theory_rings.specs.Series.{series}
 use Rattle.theory_algebra.proofs.Cases.{case-le}
 use Rattle.theory_lists.proofs.Grid.{within}
 use Rattle.theory_lists.proofs.Last.{last-unique}
-use Rattle.theory_lists.proofs.Part.{get_d_part}
+use Rattle.theory_lists.proofs.Part.{get_or-part}
 use Rattle.theory_reduction.specs.Pivot.{value, index}
 use Rattle.theory_reduction.specs.Process.{halt}
 use Rattle.theory_reduction.specs.Step.{begin}
@@ -172,7 +172,7 @@ module _ (w : ℕ) where
       at i inside =
           let column : i % 2 < 2 = omega arith in
           let degree : i / 2 < w = omega arith in
-          get_d_part (0 * (2 * w)) (2 * w) xs (omega (arith, xs-length)) _ (within (i % 2) (i / 2) 2 w column degree)
+          get_or-part (0 * (2 * w)) (2 * w) xs (omega (arith, xs-length)) _ (within (i % 2) (i / 2) 2 w column degree)
           ∙ ap (λ (k : ℕ). get_or xs k 0) (omega arith) ∙ xs-at (i % 2) (i / 2) column degree
 
   xs-residues : {p : ℕ} → 2 ≤ p → Coefficients p xs

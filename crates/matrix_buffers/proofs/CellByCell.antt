@@ -8,8 +8,8 @@ use lib.ListN.{length, get_or, take, drop}
 use Rattle.theory_algebra.proofs.Cases.{case-le}
 use Rattle.theory_lists.specs.Change.{imap}
 use Rattle.theory_lists.specs.Part.{part, on_part}
-use Rattle.theory_lists.proofs.Change.{length-imap, get_or-imap, get_d_past}
-use Rattle.theory_lists.proofs.Part.{length_part, get_d_part, length-on_part, on_part-low, on_part-in, on_part-high}
+use Rattle.theory_lists.proofs.Change.{length-imap, get_or-imap, get_or-past}
+use Rattle.theory_lists.proofs.Part.{length_part, get_or-part, length-on_part, on_part-low, on_part-in, on_part-high}
 use Rattle.matrix_buffers.specs.Written.{CellsWritten}
 
 pub none_written : {w : ℕ} {at new : ℕ → ℕ → ℕ} {b : List ℕ} → CellsWritten w 0 at new b b
@@ -36,7 +36,7 @@ part-written {at = at} a n b l fits inside d =
           (λ before. let here : x ≡ a + (x - a) = omega arith in
           rw here (on_part-in a n b fits back keeps (x - a) (omega arith)
           ∙ d.others (x - a) (λ i t li lt same. elsewhere i t li lt (here ∙ ap (λ (y : ℕ). a + y) same))
-          ∙ get_d_part a n b fits (x - a) (omega arith))))
+          ∙ get_or-part a n b fits (x - a) (omega arith))))
           (λ before. on_part-low a n b fits back keeps x before);
     }
 
@@ -47,9 +47,9 @@ cell-changed f a w b fits =
     let size : length (part a w b) ≡ w = length_part a w b fits in
     part-written a w b (imap f (part a w b)) fits (λ _ _ _ lt. lt) (record {
       size = length-imap f (part a w b);
-      written = λ _ t _ lt. get_or-imap f (part a w b) t (omega arith) ∙ ap (f t) (get_d_part a w b fits t lt);
+      written = λ _ t _ lt. get_or-imap f (part a w b) t (omega arith) ∙ ap (f t) (get_or-part a w b fits t lt);
       others = λ x elsewhere. case-le w x
-          (λ past. get_d_past (imap f (part a w b)) x (omega (arith, length-imap f (part a w b))) ∙ sym (get_d_past (part a w b) x (omega arith)))
+          (λ past. get_or-past (imap f (part a w b)) x (omega (arith, length-imap f (part a w b))) ∙ sym (get_or-past (part a w b) x (omega arith)))
           (λ inside. absurd (elsewhere 0 x (omega arith) inside refl));
     })
 

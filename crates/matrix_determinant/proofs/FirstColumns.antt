@@ -38,7 +38,7 @@ use Rattle.matrix_steps.specs.multiple.Factor.{Factor}
 use Rattle.matrix_steps.specs.declared.Lowered.{Lowered}
 use Rattle.matrix_steps.proofs.Value.{value-held}
 use Rattle.matrix_steps.proofs.Moving.{height-is, step-followed, step-held, step_falls}
-use Rattle.matrix_steps.proofs.RowsOf as Rows-of
+use Rattle.matrix_steps.proofs.RowsOf
 use Rattle.matrix_steps.proofs.multiple.Below.{negative-below}
 use Rattle.matrix_determinant.specs.FirstColumns.{RowsHeld, ReduceAsked, ColumnsReduced}
 
@@ -178,7 +178,7 @@ module _ {p reciprocal m w wide budget : ℕ} {r₀ column₀ r column : List �
     reach-fits = omega (arith, cell_room asked.prime asked.columns asked.held pivots_are next places, asked.sizes.wide_most)
 
     pub lower-asked : LowerAsked p reciprocal m w l k (get_or pivots l zero_row) (get_or pivots k zero_row) r
-    lower-asked = Rows-of.lower-asked (suc m) m w asked.columns r asked.held.matrix.size pivots_are asked.ready asked.prime
+    lower-asked = RowsOf.lower-asked (suc m) m w asked.columns r asked.held.matrix.size pivots_are asked.ready asked.prime
         (held-coefficients (by_rows (suc m) m w) p asked.held.matrix) listed
 
     pub column-asked : {e c f : ℕ} → Factor p m w l k (get_or pivots l zero_row) (get_or pivots k zero_row) r e c f
@@ -214,7 +214,7 @@ module _ {p reciprocal m w wide budget : ℕ} {r₀ column₀ r column : List �
           f = asked.f;
           held = rows_on asked.prime asked.columns asked.held pivots_are next places lowered added;
         };
-        pivots_are = Rows-of.pivots-after asked.held.matrix.size listed.l_fits lowered pivots_are
+        pivots_are = RowsOf.pivots-after asked.held.matrix.size listed.l_fits lowered pivots_are
             (omega (arith, rows_fit, now.pivots-size));
         pivots-size = length-set pivots l x.pivot ∙ now.pivots-size;
         by = λ P whole f h. rows_on P asked.columns (now.by P whole f h) pivots_are next places lowered added;

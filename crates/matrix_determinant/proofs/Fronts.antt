@@ -14,7 +14,7 @@ use Rattle.theory_algebra.specs.Residue.{Zp}
 use Rattle.theory_rings.specs.PrimeField.{zp_field}
 use Rattle.theory_rings.specs.Series.{series}
 use Rattle.theory_lattice.proofs.Coefficients.{below_more}
-use Rattle.theory_lists.proofs.Change.{get_d_past}
+use Rattle.theory_lists.proofs.Change.{get_or-past}
 use Rattle.theory_lists.proofs.Grid.{one_line}
 use Rattle.theory_determinant.proofs.Stage.{stage-last}
 use Rattle.poly.specs.Holds.{Holds}
@@ -34,7 +34,7 @@ held-single {w = w} {l = l} size h = record {
   size = omega (arith, size);
   at = λ i j t li lj lt. let first : i ≡ 0 = omega arith in let only : j ≡ 0 = omega arith in
       rw (first, only) (ap (λ (x : ℕ). get_or l x 0) (omega arith) ∙ h.at t);
-  beyond = λ i j t li lj past. sym (h.at t) ∙ get_d_past l t (omega (arith, size));
+  beyond = λ i j t li lj past. sym (h.at t) ∙ get_or-past l t (omega (arith, size));
 }
 
 -- the first budget is within a wide cell

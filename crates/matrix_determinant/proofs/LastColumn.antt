@@ -10,9 +10,9 @@ use Rattle.theory_algebra.proofs.Cases.{case-le}
 use Rattle.theory_lattice.specs.Row.{Row}
 use Rattle.theory_lists.specs.Part.{part}
 use Rattle.theory_lists.specs.Skip.{skip}
-use Rattle.theory_lists.proofs.Change.{get_d_past, imap-copy}
+use Rattle.theory_lists.proofs.Change.{get_or-past, imap-copy}
 use Rattle.theory_lists.proofs.Grid.{line-end, line-less, within}
-use Rattle.theory_lists.proofs.Part.{length_part, get_d_part}
+use Rattle.theory_lists.proofs.Part.{length_part, get_or-part}
 use Rattle.poly.specs.arithmetic.Operations.{zeros}
 use Rattle.poly.specs.Holds.{Holds}
 use Rattle.matrix_promises.specs.Held.{Held}
@@ -37,9 +37,9 @@ module _ {at size : ℕ} {from b : List ℕ} (asked : CellAsked at size from b) 
 
   pub copied : {new : List ℕ} → new ≡ from
       → CellsWritten used 1 (λ _ t. at + t) (λ _ t. get_or from t 0) b (take at b ++ (new ++ drop (at + used - at) (drop at b)))
-  copied New-is =
+  copied new_is =
       let fits : at + used ≤ length b = omega (arith, asked.fits, asked.enough) in
-      rw (add-sub_cancel_left at used, New-is ∙ sym (imap-copy from (part at used b) (sym (length_part at used b fits))))
+      rw (add-sub_cancel_left at used, new_is ∙ sym (imap-copy from (part at used b) (sym (length_part at used b fits))))
       (cell-changed (λ t _. get_or from t 0) at used b fits)
 
   module _ {b' : List ℕ} (first : CellsWritten used 1 (λ _ t. at + t) (λ _ t. get_or from t 0) b b') where
@@ -47,16 +47,16 @@ module _ {at size : ℕ} {from b : List ℕ} (asked : CellAsked at size from b) 
         → CellsWritten (size - used) 1 (λ _ t. at + used + t) (λ _ t. 0) b'
         (take (at + used) b' ++ (new ++ drop (at + size - (at + used)) (drop (at + used) b')))
     unfolding zeros
-    cleared New-is =
+    cleared new_is =
         let left : at + size - (at + used) ≡ size - used = omega arith in
-        rw (New-is, left) (cell-changed (λ _ _. 0) (at + used) (size - used) b' (omega (arith, first.size, asked.fits, asked.enough)))
+        rw (new_is, left) (cell-changed (λ _ _. 0) (at + used) (size - used) b' (omega (arith, first.size, asked.fits, asked.enough)))
 
     pub filled : {b'' : List ℕ} → CellsWritten (size - used) 1 (λ _ t. at + used + t) (λ _ t. 0) b' b'' → CellFilled at size from b b''
     filled second = record {
       size = second.size ∙ first.size;
       written = λ _ t _ lt. case-le used t
           (λ past. let here : at + t ≡ at + used + (t - used) = omega arith in
-          rw here (second.written 0 (t - used) (omega arith) (omega arith)) ∙ sym (get_d_past from t past))
+          rw here (second.written 0 (t - used) (omega arith) (omega arith)) ∙ sym (get_or-past from t past))
           (λ before. second.others _ (λ _ u _ lu. omega arith) ∙ first.written 0 t (omega arith) before);
       others = λ x outside.
           second.others x (λ _ u _ lu same. outside 0 (used + u) (omega arith) (omega arith) (omega arith))
@@ -139,15 +139,15 @@ module _ {m w wide k : ℕ} {r next₀ column₀ : List ℕ} (asked : PartAsked 
     next_at = λ i j t li lj lt.
         let inside : j * w + t < kept = within j t (m - 1) w lj lt in
         now.next-filled.written i (j * w + t) (omega arith) inside
-        ∙ get_d_part (start i) kept r (omega (arith, row-parts i li)) (j * w + t) inside;
+        ∙ get_or-part (start i) kept r (omega (arith, row-parts i li)) (j * w + t) inside;
     column_size = now.column-filled.size ∙ asked.column_size;
     column_at = λ i t li lt.
         cell i t li (omega (arith, asked.widened))
-        ∙ get_d_part (start i + kept) w r (last i li) t lt
+        ∙ get_or-part (start i + kept) w r (last i li) t lt
         ∙ ap (λ (x : ℕ). get_or r x 0) (omega arith);
     column_zero = λ i t li from lt.
         cell i t li lt
-        ∙ get_d_past (part (start i + kept) w r) t (omega (arith, length_part (start i + kept) w r (last i li)));
+        ∙ get_or-past (part (start i + kept) w r) t (omega (arith, length_part (start i + kept) w r (last i li)));
   }
     where
       last : (i : ℕ) → i < m → start i + kept + w ≤ length r
@@ -186,10 +186,10 @@ column-cell {n = n} {wide = wide} {l = l} h i li =
     record {
       at = λ t. case-le wide t
           (λ past.
-          get_d_past (part (i * wide) wide l) t (omega (arith, length_part (i * wide) wide l fits))
+          get_or-past (part (i * wide) wide l) t (omega (arith, length_part (i * wide) wide l fits))
           ∙ sym (h.beyond i 0 t li (omega arith) past))
           (λ inside.
-          get_d_part (i * wide) wide l fits t inside
+          get_or-part (i * wide) wide l fits t inside
           ∙ sym (ap (λ (x : ℕ). get_or l x 0) (in-column i wide t))
           ∙ h.at i 0 t li (omega arith) inside);
     }

@@ -17,7 +17,7 @@ use Rattle.theory_rings.proofs.PrimeField.{field-neg, field-zero, field-one}
 use Rattle.theory_algebra.proofs.Ring.{one-mul, neg-mul}
 use Rattle.theory_rings.specs.Series.{series}
 use Rattle.theory_rings.proofs.Series.{neg-at, const-mul-at}
-use Rattle.theory_lists.proofs.Change.{length-imap, get_or-imap, get_d_past}
+use Rattle.theory_lists.proofs.Change.{length-imap, get_or-imap, get_or-past}
 use Rattle.theory_lists.proofs.Total.{total-same}
 use Rattle.poly.specs.residues.Modulus.{Ready}
 use Rattle.poly.specs.Polynomial.{used_places}
@@ -30,7 +30,7 @@ use Rattle.matrix_determinant.specs.SignedProduct.{signed_product, signed, Multi
 -- the places in use are all of the polynomial
 used-at : (l : List ℕ) (n : ℕ) → n ≡ used_places l → (i : ℕ) → get_or (take n l) i 0 ≡ get_or l i 0
 used-at l n used i = case-le n i
-    (λ past. get_d_past (take n l) i (omega (arith, length-take-le n l (omega (arith, (ends-height l).within))))
+    (λ past. get_or-past (take n l) i (omega (arith, length-take-le n l (omega (arith, (ends-height l).within))))
     ∙ sym ((ends-height l).zeros i (omega arith)))
     (λ before. get_or-take n l i 0 before)
 
@@ -52,10 +52,10 @@ module _ {x y p reciprocal : ℕ} {a b : List ℕ} (x-used : x ≡ used_places a
   }
 
   -- it is made in front of the room
-  module _ {new : List ℕ} (rest : List ℕ) (New-is : new ≡ product_of p (take x a) (take y b) (take (length a) room)) where
+  module _ {new : List ℕ} (rest : List ℕ) (new_is : new ≡ product_of p (take x a) (take y b) (take (length a) room)) where
     new-size : length new ≡ length a
     unfolding product_of
-    new-size = ap length New-is ∙ length-imap _ (take (length a) room) ∙ front
+    new-size = ap length new_is ∙ length-imap _ (take (length a) room) ∙ front
 
     pub made-room : length a ≤ length (new ++ rest)
     made-room = rw length-append (omega (arith, new-size))
@@ -63,8 +63,8 @@ module _ {x y p reciprocal : ℕ} {a b : List ℕ} (x-used : x ≡ used_places a
     pub made-whole : take (length a) (new ++ rest) ≡ product_of p a b a
     unfolding product_of
     made-whole =
-        take_at new rest (length a) new-size ∙ New-is ∙ ext_get_or 0 _ _ (sym (ap length New-is) ∙ new-size ∙ sym (length-imap _ a)) (λ k lk.
-        let inside : k < length a = omega (arith, ap length New-is, new-size) in
+        take_at new rest (length a) new-size ∙ new_is ∙ ext_get_or 0 _ _ (sym (ap length new_is) ∙ new-size ∙ sym (length-imap _ a)) (λ k lk.
+        let inside : k < length a = omega (arith, ap length new_is, new-size) in
         get_or-imap _ (take (length a) room) k (omega (arith, front)) ∙ ap (λ (z : ℕ). z % p) (used-product k) ∙ sym (get_or-imap _ a k inside))
 
 module _ (p : ℕ) (P : Prime p) {a b : List ℕ} {f g : ℕ → Zp p} (a-holds : Holds p a f) (b-holds : Holds p b g) where

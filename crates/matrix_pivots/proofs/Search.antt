@@ -9,7 +9,7 @@ use native.Mathlib.Omega.{arith}
 use lib.ListN.{length, get_or, take, drop}
 use Rattle.theory_lists.specs.Last.{last_nonzero}
 use Rattle.theory_lists.proofs.Last.{last-nil, last-zero, last-here, IsLast, last-is, last-unique}
-use Rattle.theory_lists.proofs.Part.{length_part, get_d_part}
+use Rattle.theory_lists.proofs.Part.{length_part, get_or-part}
 use Rattle.theory_reduction.specs.Pivot.{index, height}
 use Rattle.theory_reduction.proofs.Index.{index-some, height-some}
 use Rattle.matrix_pivots.specs.Pivot.{Line, RowAsked, IsPivotOf, value_of, row_of}
@@ -168,7 +168,7 @@ row-asked m w top at i r e columns fits within-w zeros = record {
   within = within-w;
   zeros = λ c t lc from to.
       ap (λ (n : ℕ). get_or (take n (drop at r)) (c * w + t) 0) (N.add-sub_cancel_left at (m * w))
-      ∙ get_d_part at (m * w) r fits (c * w + t) (within c t m w lc to)
+      ∙ get_or-part at (m * w) r fits (c * w + t) (within c t m w lc to)
       ∙ ap (λ (a : ℕ). get_or r (a + (c * w + t)) 0) e
       ∙ zeros c t lc from to;
 }

@@ -9,7 +9,7 @@ use lib.Seq.{get_or-set_same, get_or-set_other}
 use borrow.Author.Tests.{le-leb, lt-leb}
 use Rattle.theory_algebra.proofs.Cases.{case-le}
 use Rattle.theory_lists.specs.Part.{part}
-use Rattle.theory_lists.proofs.Part.{length_part, get_d_part}
+use Rattle.theory_lists.proofs.Part.{length_part, get_or-part}
 use Rattle.poly.specs.Polynomial.{used_places}
 use Rattle.poly.specs.arithmetic.Operations.{plus_term, TermAsked}
 use Rattle.poly.proofs.Ending.{ends-height}
@@ -53,7 +53,7 @@ module _ (p reciprocal c e w top to from n : ℕ) (b₀ : List ℕ) (pre : CellP
   none : (t : ℕ) → n ≤ t → t < w → get_or b₀ (from + t) 0 ≡ 0
   none t past lt = case-le top t
       (λ high. pre.short.zero 0 t (omega arith) high lt)
-      (λ low. sym (get_d_part from top b₀ read_fits t low) ∙ (ends-height (part from top b₀)).zeros t (omega (arith, used-is)))
+      (λ low. sym (get_or-part from top b₀ read_fits t low) ∙ (ends-height (part from top b₀)).zeros t (omega (arith, used-is)))
 
   module _ (b : List ℕ) (i y : ℕ) (now : Adding p c e to from n b₀ b i) (li : i < n) (y-is : y ≡ get_or b (from + i) 0) where
     -- the number that is read is as it was
@@ -75,7 +75,7 @@ module _ (p reciprocal c e w top to from n : ℕ) (b₀ : List ℕ) (pre : CellP
         → Adding p c e to from n b₀ (take to b ++ (l ++ drop (to + w - to) (drop to b))) (i + 1)
     term-turn l l-is =
         let kept : get_or (part to w b) (e + i) 0 ≡ get_or b₀ (to + (e + i)) 0 =
-        get_d_part to w b fits (e + i) (omega (arith, few)) ∙ now.done.others _ (λ j t lj lt same. omega arith) in
+        get_or-part to w b fits (e + i) (omega (arith, few)) ∙ now.done.others _ (λ j t lj lt same. omega arith) in
         rw (l-is, add-sub_cancel_left to w)
         (writing-turn now li (λ j t u lj lt lu same. omega arith)
         (λ t lt. let zero : t ≡ 0 = omega arith in rw (zero, add-zero) (ap₂ (λ (x y : ℕ). (x + c * y) % p) kept source))

@@ -12,7 +12,7 @@ use Rattle.theory_algebra.specs.Prime.{Prime}
 use Rattle.poly.specs.residues.Modulus.{Ready}
 use Rattle.theory_lists.specs.Coefficients.{Coefficients}
 use Rattle.theory_lists.proofs.Last.{last-is}
-use Rattle.theory_lists.proofs.Part.{length_part, get_d_part}
+use Rattle.theory_lists.proofs.Part.{length_part, get_or-part}
 use Rattle.theory_lists.specs.Place.{spot}
 use Rattle.theory_lists.proofs.Place.{block-own}
 use Rattle.matrix_rows.specs.Asked.{Short}
@@ -37,7 +37,7 @@ module _ (n m w : ℕ) (columns : 0 < m) (r : List ℕ) (size : length r ≡ n *
   row_fits i li = omega (arith, line-end i n (m * w) li)
 
   row_at : (i j t : ℕ) → i < n → j < m → t < w → get_or (row_of m w r i) (j * w + t) 0 ≡ get_or r (spot m w i j t) 0
-  row_at i j t li lj lt = get_d_part (i * (m * w)) (m * w) r (row_fits i li) (j * w + t) (within j t m w lj lt)
+  row_at i j t li lj lt = get_or-part (i * (m * w)) (m * w) r (row_fits i li) (j * w + t) (within j t m w lj lt)
 
   -- from its height on a row is zero
   pub row-short : (i : ℕ) → i < n → Short w (height m (values_of m w r i)) m (spot m w i) r
@@ -131,9 +131,9 @@ module _ {p n m w l k : ℕ} {high low : Pivot} {r r' : List ℕ} {x : Lowered} 
       let fits' : i * (m * w) + m * w ≤ length r' = omega (arith, lowered.r_move.size) in
       ext_get_or 0 _ _ (length_part (i * (m * w)) (m * w) r' fits' ∙ sym (length_part (i * (m * w)) (m * w) r fits)) (λ x lx.
       let inside : x < m * w = omega (arith, length_part (i * (m * w)) (m * w) r' fits') in
-      get_d_part (i * (m * w)) (m * w) r' fits' x inside
+      get_or-part (i * (m * w)) (m * w) r' fits' x inside
       ∙ lowered.r_move.others (i * (m * w) + x) (λ j t lj lt same. ne (apart x inside j t lj lt same))
-      ∙ sym (get_d_part (i * (m * w)) (m * w) r fits x inside))
+      ∙ sym (get_or-part (i * (m * w)) (m * w) r fits x inside))
     where
       -- a place of row i is none of row l
       apart : (x : ℕ) → x < m * w → (j t : ℕ) → j < m → t < w → i * (m * w) + x ≡ spot m w l j t → i ≡ l

@@ -15,7 +15,7 @@ use Rattle.theory_lists.specs.Last.{last_nonzero}
 use Rattle.theory_lists.specs.Total.{total}
 use Rattle.theory_lists.proofs.Last.{last-is, last-nil, last-zero, last-here}
 use Rattle.theory_lists.proofs.Total.{total-bound}
-use Rattle.theory_lists.proofs.Part.{get_d_part}
+use Rattle.theory_lists.proofs.Part.{get_or-part}
 use Rattle.matrix_promises.specs.Held.{Held}
 use Rattle.matrix_promises.specs.Layout.{by_rows}
 use Rattle.theory_reduction.specs.Pivot.{top, value, height}
@@ -48,7 +48,7 @@ module _ (p : ℕ) (P : Prime p) where
   value-held n m w {l} h columns i li = top-last (w * m) _ _ (λ x lx.
       let column : x % m < m = N.mod-lt x columns in
       let degree : x / m < w = (N.div-lt_iff_lt-mul columns).1 lx in
-      get_d_part (i * (m * w)) (m * w) l (omega (arith, h.size, line-end i n (m * w) li)) _ (within (x % m) (x / m) m w column degree)
+      get_or-part (i * (m * w)) (m * w) l (omega (arith, h.size, line-end i n (m * w) li)) _ (within (x % m) (x / m) m w column degree)
       ∙ h.at i (x % m) (x / m) li column degree)
 
 -- the bounds that hold for every list

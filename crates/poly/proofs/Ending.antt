@@ -13,9 +13,9 @@ use lib.ListN.{length, get_or}
 use mir.Syntax.{w64}
 use mir.Val.{to_z}
 use Rattle.theory_lists.specs.Part.{part}
-use Rattle.theory_lists.proofs.Change.{get_d_past}
+use Rattle.theory_lists.proofs.Change.{get_or-past}
 use Rattle.theory_lists.proofs.Last.{last-is, last-unique}
-use Rattle.theory_lists.proofs.Part.{length_part, get_d_part}
+use Rattle.theory_lists.proofs.Part.{length_part, get_or-part}
 use Rattle.poly.specs.Polynomial.{used_places, leading_of, SamePolynomial}
 
 -- the first i places are zero
@@ -50,7 +50,7 @@ pub record Ends (l : List ℕ) (n : ℕ) : Type 0 where
   pub zeros : (i : ℕ) → n ≤ i → get_or l i 0 ≡ 0
 
 pub ends-start : (l : List ℕ) → Ends l (length l)
-ends-start l = record { within = omega arith; zeros = get_d_past l }
+ends-start l = record { within = omega arith; zeros = get_or-past l }
 
 -- and before s, where the places from s to n are zero
 pub ends-lower : (l : List ℕ) (s n : ℕ) → Ends l n → s ≤ n → ((i : ℕ) → s ≤ i → i < n → get_or l i 0 ≡ 0) → Ends l s
@@ -64,13 +64,13 @@ ends-part l s n e le z = ends-lower l s n e le (λ i h k.
     let fits : s + (n - s) ≤ length l = omega arith in
     let here : i ≡ s + (i - s) = omega arith in
     ap (λ (j : ℕ). get_or l j 0) here
-    ∙ sym (get_d_part s (n - s) l fits (i - s) (omega arith))
+    ∙ sym (get_or-part s (n - s) l fits (i - s) (omega arith))
     ∙ z (i - s) (omega (arith, length_part s (n - s) l fits)))
 
 pub ends-height : (l : List ℕ) → Ends l (used_places l)
 ends-height l = let x = last-is (length l) (λ i. get_or l i 0) in record {
   within = x.within;
-  zeros = λ i h. elim (dec_le (length l) i) [ yes past ↦ get_d_past l i past | no before ↦ x.zeros i h (omega arith) ];
+  zeros = λ i h. elim (dec_le (length l) i) [ yes past ↦ get_or-past l i past | no before ↦ x.zeros i h (omega arith) ];
 }
 
 -- the last that is not zero is the one before n
@@ -100,7 +100,7 @@ module _ (a b : List ℕ) where
       ends = record {
         within = elim (dec_le (used_places b) (length a)) [
           | yes in-a ↦ in-a
-          | no past ↦ absurd (some (omega arith) (get_d_past a (used_places b - 1) (omega arith)))
+          | no past ↦ absurd (some (omega arith) (get_or-past a (used_places b - 1) (omega arith)))
         ];
         zeros = λ i h. s.same i ∙ (ends-height b).zeros i h;
       }

@@ -17,7 +17,7 @@ use Rattle.theory_rings.proofs.PrimeField.{field-zero}
 use Rattle.theory_algebra.proofs.Residue.{zp-path}
 use Rattle.theory_rings.specs.Series.{series}
 use Rattle.theory_rings.proofs.Series.{zero-at}
-use Rattle.theory_lists.proofs.Change.{get_d_past}
+use Rattle.theory_lists.proofs.Change.{get_or-past}
 use Rattle.theory_lists.proofs.Last.{IsLast, last-is}
 use Rattle.poly.proofs.Ending.{ends-height}
 use Rattle.poly.specs.Polynomial.{used_places, degree_of, leading_of, SamePolynomial}
@@ -29,7 +29,7 @@ pub holds-some : (p : ℕ) (some : 0 < p) (l : List ℕ) → Coefficients p l �
 holds-some p some l c = record { at = λ k. sym (N.mod-eq_of_lt (below k)) }
   where
     below : (k : ℕ) → get_or l k 0 < p
-    below k = elim (dec_le (length l) k) [ yes past ↦ (let e = get_d_past l k past in omega arith) | no in-l ↦ c.below k (omega arith) ]
+    below k = elim (dec_le (length l) k) [ yes past ↦ (let e = get_or-past l k past in omega arith) | no in-l ↦ c.below k (omega arith) ]
 
 -- and one only
 pub holds-one : (p : ℕ) (l : List ℕ) (f g : ℕ → Zp p) → Holds p l f → Holds p l g → f ≡ g

@@ -21,15 +21,15 @@ get_or-imap f [] i h = absurd (not-suc-le-zero h)
 get_or-imap f (x ∷ l) zero h = refl
 get_or-imap f (x ∷ l) (suc i) h = get_or-imap (λ i. f (suc i)) l i (le_of_suc-le-suc h)
 
-pub get_d_past : (l : List ℕ) (i : ℕ) → length l ≤ i → get_or l i 0 ≡ 0
-get_d_past [] i h = refl
-get_d_past (x ∷ l) zero h = absurd (not-suc-le-zero h)
-get_d_past (x ∷ l) (suc i) h = get_d_past l i (le_of_suc-le-suc h)
+pub get_or-past : (l : List ℕ) (i : ℕ) → length l ≤ i → get_or l i 0 ≡ 0
+get_or-past [] i h = refl
+get_or-past (x ∷ l) zero h = absurd (not-suc-le-zero h)
+get_or-past (x ∷ l) (suc i) h = get_or-past l i (le_of_suc-le-suc h)
 
 -- at every index, where past the list the rule makes 0 of 0
 pub get_or-imap-every : (f : ℕ → ℕ → ℕ) (l : List ℕ) (i : ℕ) → (length l ≤ i → f i 0 ≡ 0) → get_or (imap f l) i 0 ≡ f i (get_or l i 0)
 get_or-imap-every f l i h = elim (dec_le (length l) i) [
-  | yes past ↦ get_d_past (imap f l) i (rw length-imap past) ∙ sym (h past) ∙ ap (f i) (sym (get_d_past l i past))
+  | yes past ↦ get_or-past (imap f l) i (rw length-imap past) ∙ sym (h past) ∙ ap (f i) (sym (get_or-past l i past))
   | no before ↦ get_or-imap f l i (omega arith)
 ]
 

@@ -11,8 +11,8 @@ module _ (a n : ℕ) (l : List ℕ) (fits : a + n ≤ length l) where
   pub length_part : length (part a n l) ≡ n
   length_part = simp (length-take, length-drop) (omega arith)
 
-  pub get_d_part : (i : ℕ) → i < n → get_or (part a n l) i 0 ≡ get_or l (a + i) 0
-  get_d_part i h = get_or-take n (drop a l) i 0 h ∙ get_or-drop a l i 0
+  pub get_or-part : (i : ℕ) → i < n → get_or (part a n l) i 0 ≡ get_or l (a + i) 0
+  get_or-part i h = get_or-take n (drop a l) i 0 h ∙ get_or-drop a l i 0
 
   -- l with g applied to the part, where g keeps the part's length
   module _ (g : List ℕ → List ℕ) (keeps : length (g (part a n l)) ≡ n) where

@@ -6,7 +6,7 @@ use native.Mathlib.Nat as N
 use native.Mathlib.Omega.{arith}
 use lib.ListN.{length, get_or}
 use Rattle.theory_algebra.proofs.Cases.{case-le}
-use Rattle.theory_lists.proofs.Change.{get_d_past}
+use Rattle.theory_lists.proofs.Change.{get_or-past}
 use Rattle.theory_lists.proofs.Grid.{line-end, one_line}
 use Rattle.theory_lists.specs.Coefficients.{Coefficients}
 use Rattle.matrix_promises.specs.Layout.{by_rows}
@@ -27,7 +27,7 @@ once {p} {at = at} {b = b} two residues = record {
 }
   where
     below : (x : ℕ) → get_or b x 0 < p
-    below x = case-le (length b) x (λ past. omega (arith, get_d_past b x past)) (λ inside. residues.below x inside)
+    below x = case-le (length b) x (λ past. omega (arith, get_or-past b x past)) (λ inside. residues.below x inside)
 
 module _ {p reciprocal n m w i : ℕ} {pivot : Pivot} {r u v : List ℕ} (asked : RowToDivide p reciprocal n m w i pivot r u v) where
   open asked use {ready, prime, holding, fits, led}

@@ -13,7 +13,7 @@ use Rattle.theory_lattice.specs.Row.{Row}
 use Rattle.theory_lists.specs.Last.{last_nonzero}
 use Rattle.theory_lists.specs.Total.{total}
 use Rattle.theory_lists.proofs.Grid.{line-end}
-use Rattle.theory_lists.proofs.Part.{length_part, get_d_part}
+use Rattle.theory_lists.proofs.Part.{length_part, get_or-part}
 use Rattle.theory_lists.proofs.Total.{total-same}
 use Rattle.poly.specs.Polynomial.{used_places}
 use Rattle.matrix_promises.specs.Held.{Held}
@@ -41,7 +41,7 @@ module _ (p : ℕ) (P : Prime p) (n m w : ℕ) (columns : 0 < m) {r : List ℕ} 
   cell-top i j li lj =
       ap (λ (s : ℕ). last_nonzero s (λ t. get_or (cell_of m w r i j) t 0)) (length_part start w r fits)
       ∙ sym (top-last p P w (M i j) _ (λ t lt.
-      get_d_part start w r fits t lt ∙ ap (λ (x : ℕ). get_or r x 0) (N.add_assoc (i * (m * w)) (j * w) t) ∙ h.at i j t li lj lt))
+      get_or-part start w r fits t lt ∙ ap (λ (x : ℕ). get_or r x 0) (N.add_assoc (i * (m * w)) (j * w) t) ∙ h.at i j t li lj lt))
     where
       start : ℕ
       start = i * (m * w) + j * w

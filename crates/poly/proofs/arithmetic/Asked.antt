@@ -6,7 +6,7 @@ use native.Mathlib.Nat.{mod-lt, zero-mod}
 use native.Mathlib.Omega.{arith}
 use lib.ListN.{length}
 use Rattle.theory_lists.specs.Change.{imap}
-use Rattle.theory_lists.proofs.Change.{get_d_past, length-imap, get_or-imap}
+use Rattle.theory_lists.proofs.Change.{get_or-past, length-imap, get_or-imap}
 use Rattle.poly.specs.residues.Modulus.{Ready}
 use Rattle.theory_lists.specs.Coefficients.{Coefficients}
 use Rattle.poly.specs.arithmetic.Operations.{shifted, plus_multiple, MultipleAsked, ProductAsked, scaled_by}
@@ -32,7 +32,7 @@ with-room p reciprocal c e a b ready factor ca cb room = record {
   factor = factor;
   target = ca;
   source = cb;
-  room = λ i h. get_d_past b i (omega arith);
+  room = λ i h. get_or-past b i (omega arith);
 }
 
 -- room for every term of a product

@@ -12,8 +12,8 @@ use borrow.Author.Tests.{le-leb, lt-leb}
 use Rattle.theory_lists.specs.Change.{imap}
 use Rattle.theory_lists.specs.Part.{part, on_part}
 use Rattle.theory_lists.specs.Total.{total}
-use Rattle.theory_lists.proofs.Change.{length-imap, get_or-imap, get_d_past}
-use Rattle.theory_lists.proofs.Part.{length_part, get_d_part, length-on_part, on_part-low, on_part-in, on_part-high}
+use Rattle.theory_lists.proofs.Change.{length-imap, get_or-imap, get_or-past}
+use Rattle.theory_lists.proofs.Part.{length_part, get_or-part, length-on_part, on_part-low, on_part-in, on_part-high}
 use Rattle.theory_lists.proofs.Last.{last-is}
 use Rattle.theory_lists.proofs.Total.{total-suc, total-more}
 use Rattle.poly.proofs.Ending.{ends-height}
@@ -38,7 +38,7 @@ module _ (a b : List ℕ) (k : ℕ) where
   summing_start i i-is = record {
     from = omega arith;
     to = omega arith;
-    is = sym (total-more 0 i term (omega arith) (λ j _ h. ap (λ (x : ℕ). get_or a j 0 * x) (get_d_past b (k - j) (omega arith)) ∙ mul-zero (get_or a j 0)));
+    is = sym (total-more 0 i term (omega arith) (λ j _ h. ap (λ (x : ℕ). get_or a j 0 * x) (get_or-past b (k - j) (omega arith)) ∙ mul-zero (get_or a j 0)));
     small = omega arith;
   }
 
@@ -56,14 +56,14 @@ module _ (a b : List ℕ) (k : ℕ) where
   summing-end i sum s h =
       s.is
       ∙ sym (total-more i (suc k) term (omega (arith, s.to))
-      (λ j l m. ap (λ (x : ℕ). x * get_or b (k - j) 0) (get_d_past a j (omega arith)) ∙ zero-mul (get_or b (k - j) 0)))
+      (λ j l m. ap (λ (x : ℕ). x * get_or b (k - j) 0) (get_or-past a j (omega arith)) ∙ zero-mul (get_or b (k - j) 0)))
 
   -- where all places of a and of b are spent there is no term
   pub product-past : length a + length b ≤ k + 1 → product_at a b k ≡ 0
   unfolding product_at total
   product-past h = total-more 0 (suc k) term (omega arith) (λ i _ l. elim (dec_le (length a) i) [
-    | yes past ↦ ap (λ (x : ℕ). x * get_or b (k - i) 0) (get_d_past a i past) ∙ zero-mul (get_or b (k - i) 0)
-    | no in-a ↦ ap (λ (x : ℕ). get_or a i 0 * x) (get_d_past b (k - i) (omega arith)) ∙ mul-zero (get_or a i 0)
+    | yes past ↦ ap (λ (x : ℕ). x * get_or b (k - i) 0) (get_or-past a i past) ∙ zero-mul (get_or b (k - i) 0)
+    | no in-a ↦ ap (λ (x : ℕ). get_or a i 0 * x) (get_or-past b (k - i) (omega arith)) ∙ mul-zero (get_or a i 0)
   ])
 
 -- the sum over a part is the sum over the whole: below the part nothing is added, and above it b has no terms
@@ -125,7 +125,7 @@ module _ (p reciprocal c e : ℕ) (a b : List ℕ) (pre : MultipleAsked p recipr
             ∙ on_part-in e n a fits add keeps (i - e) inside
             ∙ get_or-imap _ (part e n a) (i - e) (omega (arith, length_part e n a fits))
             ∙ ap₂ (λ (x y : ℕ). (x + c * y) % p)
-            (get_d_part e n a fits (i - e) inside ∙ ap (λ (j : ℕ). get_or a j 0) (sym here))
+            (get_or-part e n a fits (i - e) inside ∙ ap (λ (j : ℕ). get_or a j 0) (sym here))
             (get_or-take n b (i - e) 0 inside ∙ sym (shifted-high i from)))
       ]
     ]
@@ -149,4 +149,4 @@ module _ (p reciprocal c e : ℕ) (a b : List ℕ) (pre : MultipleAsked p recipr
     pub part-back : (new : List ℕ) → new ≡ imap (plus_times p c (take n b)) (take (e + n - e) (drop e a))
         → take e a ++ (new ++ drop (e + n - e) (drop e a)) ≡ plus_multiple p c e b a
     unfolding add on_part
-    part-back new New-is = rw (New-is, add-sub_cancel_left e n) (by-places _ (length-on_part e n a fits add keeps) place)
+    part-back new new_is = rw (new_is, add-sub_cancel_left e n) (by-places _ (length-on_part e n a fits add keeps) place)

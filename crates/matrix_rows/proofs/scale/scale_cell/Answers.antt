@@ -6,7 +6,7 @@ use Prim.Native.Nat.{ℕ, ◌+◌, ◌*◌, ◌-◌, ◌%◌, ◌≤◌, ◌<◌
 use native.Mathlib.Nat as N
 use lib.ListN.{length, get_or, take, drop}
 use Rattle.theory_lists.specs.Part.{part}
-use Rattle.theory_lists.proofs.Part.{length_part, get_d_part}
+use Rattle.theory_lists.proofs.Part.{length_part, get_or-part}
 use Rattle.poly.specs.Polynomial.{used_places}
 use Rattle.poly.specs.arithmetic.Operations.{scaled_by}
 use Rattle.poly.proofs.Ending.{ends-height}
@@ -24,7 +24,7 @@ module _ (p c w start n : ℕ) (b : List ℕ) (fits : start + w ≤ length b) (n
 
   behind : (t : ℕ) → n ≤ t → t < w → get_or b (start + t) 0 ≡ c * get_or b (start + t) 0 % p
   behind t past lt =
-      let zero : get_or b (start + t) 0 ≡ 0 = sym (get_d_part start w b fits t lt) ∙ (ends-height (part start w b)).zeros t (omega (arith, used-is)) in
+      let zero : get_or b (start + t) 0 ≡ 0 = sym (get_or-part start w b fits t lt) ∙ (ends-height (part start w b)).zeros t (omega (arith, used-is)) in
       rw (zero, N.mul-zero, N.zero-mod) refl
 
   back : (new : List ℕ) → new ≡ scaled_by p c (take (start + n - start) (drop start b))
