@@ -4,7 +4,7 @@
 usage: tools/port_spelling.py        at the top of the repository
 
 It goes through clauses and `ghost use` lines (.rt), definitions and proofs (.antt) and wrong answers (.edit) below crates/, and
-through the pages README.md and docs/*.md, landing notes aside. Functions, exported names, strings and file names stay: no word of the
+through the pages README.md and docs/*.md, landing notes and docs/PORT.md aside. Functions, exported names, strings and file names stay: no word of the
 list is one. Three names would fall together with others and get a name of their own: inRow (a variable in_row stands beside it), getD,
 which the library spells get_or, and where-some (another definition is where_some).
 """
@@ -216,7 +216,7 @@ def respelled(word):
 
 def main():
     files = [p for end in ("rt", "antt", "edit") for p in glob.glob(f"crates/*/**/*.{end}", recursive=True)]
-    files += ["README.md"] + glob.glob("docs/*.md")
+    files += ["README.md"] + [p for p in glob.glob("docs/*.md") if p != "docs/PORT.md"]
     changed = 0
     for path in sorted(files):
         if "/out/" in path or not os.path.exists(path):
