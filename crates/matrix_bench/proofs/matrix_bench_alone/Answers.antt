@@ -7,7 +7,7 @@ use Rattle.matrix_promises.specs.Refused.{matrix_table}
 use Rattle.matrix_refusals.proofs.Answering.{answer-refused}
 use Rattle.matrix_bench.proofs.Service.{Passed, order, copy-fits, alone-asked, replied}
 use Rattle.matrix_bench.proofs.matrix_bench_alone.Goals as goal
-use Rattle.matrix_bench.proofs.matrix_bench_alone.Goals.{After-of, After-run_alone-arg-1, After-slice_known-3-1, In_default}
+use Rattle.matrix_bench.proofs.matrix_bench_alone.Goals.{In_default}
 
 -- past the checks all is in order
 known : (c : In_default) → let args = c.args in

@@ -9,7 +9,7 @@ use Rattle.matrix_reduction.proofs.Loop.{count_fits, next-asked, rows_fit}
 use Rattle.matrix_reduction.proofs.Transforms.{running-start, running-stop}
 use Rattle.matrix_reduction.proofs.Transforms.{reach-fits, advance-asked, lower, running-falls, running-on}
 use Rattle.matrix_reduction.proofs.run.Goals as goal
-use Rattle.matrix_reduction.proofs.run.Goals.{After-high-1, After-or_zero-in-loop-l, In-Rows, In-Rows}
+use Rattle.matrix_reduction.proofs.run.Goals.{In-Rows}
 
 -- the rows of a turn
 next : (c : In-Rows) → let args = c.args in

@@ -7,7 +7,7 @@ use Rattle.matrix_pivots.proofs.NextPair.{next-is}
 use Rattle.matrix_reduction.proofs.Loop.{next-asked, rows_fit, lower-asked}
 use Rattle.matrix_reduction.proofs.Alone.{alone-start, stepped-none, stepped-pair}
 use Rattle.matrix_reduction.proofs.single.once.Goals as goal
-use Rattle.matrix_reduction.proofs.single.once.Goals.{After-lower-arg-1, After-lower-arg-2-1, In-Rows}
+use Rattle.matrix_reduction.proofs.single.once.Goals.{In-Rows}
 
 -- the rows of the step
 next : (c : In-Rows) → let args = c.args in

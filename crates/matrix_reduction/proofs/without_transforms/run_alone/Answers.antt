@@ -8,7 +8,7 @@ use Rattle.matrix_pivots.proofs.NextPair.{next-is}
 use Rattle.matrix_reduction.proofs.Loop.{count_fits, next-asked, rows_fit, lower-asked, falls, going_on}
 use Rattle.matrix_reduction.proofs.Alone.{alone-start, alone-last}
 use Rattle.matrix_reduction.proofs.without_transforms.run_alone.Goals as goal
-use Rattle.matrix_reduction.proofs.without_transforms.run_alone.Goals.{After-lower-arg-1, After-lower-arg-in-loop-l-1, After-new-1, In-Rows}
+use Rattle.matrix_reduction.proofs.without_transforms.run_alone.Goals.{In-Rows}
 
 -- the rows of a turn
 next : (c : In-Rows) → let args = c.args in
