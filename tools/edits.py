@@ -5,6 +5,7 @@ A file crates/CRATE/must-fail/NAME.edit has one or more parts, each a wrong answ
     function: the function whose contract it breaks, by its public name or as its crate names it, or a definition
     wrong: what is wrong; an input: the answer that it gets then, right is the other
     proof: the function whose proof has to fail, only where the changed line stands in no function's body
+    names: a -> b, only where the prover names a changed condition b, and the proof cites it as a: it is tried under the new name
     file: a source of the crate
     old: a part of one line of it that occurs once, with the spaces that it begins with
     new: what stands there instead
@@ -26,6 +27,7 @@ class Wrong(NamedTuple):
     shown: str  # an input, and the two answers
     changes: tuple  # of each: file, old text, new text
     proof: Optional[str]  # the function whose proof has to fail, as its crate names it; None for a definition
+    names: tuple  # the old and the new name of a condition, or nothing
 
     @property
     def label(self):
@@ -54,7 +56,9 @@ def part(crate, name, text):
         if key == "new":
             changes.append((said.get("file", ""), said.get("old", ""), said["new"]))
     what, _, shown = said.get("wrong", "").partition("; ")
-    return Wrong(crate, name, said.get("function", ""), what, shown, tuple(changes), said.get("proof") or changed_function(crate, changes))
+    proof = said.get("proof") or changed_function(crate, changes)
+    names = tuple(filter(None, said.get("names", "").split(" -> ")))
+    return Wrong(crate, name, said.get("function", ""), what, shown, tuple(changes), proof, names)
 
 
 def rounds():
@@ -68,6 +72,18 @@ def rounds():
 def wrong_answers():
     for _, _, parts in rounds():
         yield from parts
+
+
+def renamed_texts(crate, parts):
+    """The texts of the proof files in which a condition has its new name."""
+    texts = {}
+    for wrong in parts:
+        if wrong.names:
+            old, new = wrong.names
+            for path in sorted((CRATES / crate / "proofs" / wrong.proof.replace("::", "/")).glob("*.antt")):
+                cited = rf"\b(then|else|if|Then|Else)-{re.escape(old)}(?![\w-])"
+                texts[str(path.relative_to(CRATES / crate))] = re.sub(cited, rf"\1-{new}", path.read_text())
+    return texts
 
 
 def changed_texts(crate, parts, amiss=None):
@@ -93,6 +109,8 @@ def faults(parts):
             yield wrong, "its `wrong:` line names no input with the wrong answer and the right one"
         if wrong.proof is None and len(parts) > 1:
             yield wrong, "it is in no function's body, so it has to stand alone"
+        if wrong.names and (len(wrong.names) != 2 or wrong.proof is None):
+            yield wrong, "its `names:` line is no `a -> b` for a condition of a function"
         if wrong.proof is not None and sum(other.proof == wrong.proof for other in parts) > 1:
             yield wrong, f"{wrong.proof} is made wrong twice in one round"
     amiss = []

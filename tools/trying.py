@@ -15,7 +15,7 @@ from functools import lru_cache
 from pathlib import Path
 from typing import NamedTuple
 
-from edits import changed_texts
+from edits import changed_texts, renamed_texts
 from sources import CRATES, TOP, layers
 
 AT_ONCE = 2  # checks; each takes more processors where there are some
@@ -73,7 +73,7 @@ def sources_sum(crate):
 
 def place(crate, name, number, parts):
     """The log of a check, and the line that it has to begin with."""
-    changes = [wrong.changes for wrong in parts]
+    changes = [(wrong.changes, wrong.names) for wrong in parts]
     found = hashlib.sha256(repr((sources_sum(crate), changes)).encode()).hexdigest()
     return LOGS / crate / f"{name}{f'.{number}' if number > 1 else ''}.log", f"sum {found}\n"
 
@@ -135,7 +135,7 @@ def check(crate, name, number, parts):
     log = kept(path, begin)
     if log is None:
         say(f"{crate}/{name}, {len(parts)} wrong answers")
-        log = run(crate, texts)
+        log = run(crate, {**texts, **renamed_texts(crate, parts)})
         path.parent.mkdir(parents=True, exist_ok=True)
         path.write_text(begin + log)
     verdicts = re.findall(r"(?m)^logic=(proved|not-proved)\b", log)
