@@ -4,9 +4,9 @@
 usage: tools/port_spelling.py        at the top of the repository
 
 It goes through clauses and `ghost use` lines (.rt), definitions and proofs (.antt) and wrong answers (.edit) below crates/, and
-through the pages README.md and docs/*.md, landing notes and docs/PORT.md aside. Functions, exported names, strings and file names stay: no word of the
-list is one. Three names would fall together with others and get a name of their own: inRow (a variable in_row stands beside it), getD,
-which the library spells get_or, and where-some (another definition is where_some).
+through the pages README.md and docs/*.md, landing notes and docs/PORT.md aside. Functions, exported names, strings and file names stay:
+no word of the lists is one. Two names would fall together with others and get a name of their own: inRow, beside which a variable in_row
+stands, and where-some, beside which another definition is where_some. getD is the library's get_or.
 """
 import glob
 import os
@@ -107,6 +107,8 @@ zeroRow zero_row
 # whole names of definitions and of fields, whose words a dash joined
 WHOLE = dict(line.split() for line in """
 New-is new_is
+v-top v_top
+x_Fits x_fits
 get_d_part get_or-part
 get_d_past get_or-past
 advance-pair advance_pair

@@ -55,7 +55,7 @@ module _ {p reciprocal m w l k : ℕ} {high low : Pivot} {r : List ℕ} (asked :
     }
 
 -- row k of U is added to row l, and column l of V to column k
-module _ {p reciprocal n w l k e c f u_top v-top : ℕ} {u v : List ℕ} (asked : FollowAsked p reciprocal n w l k e c f u_top v-top u v) where
+module _ {p reciprocal n w l k e c f u_top v_top : ℕ} {u v : List ℕ} (asked : FollowAsked p reciprocal n w l k e c f u_top v_top u v) where
   open asked use {ready, c_below, f_below, move}
 
   pub u-asked : RowsInBuffer p reciprocal f e n (n * w) u_top l k u
@@ -68,7 +68,7 @@ module _ {p reciprocal n w l k e c f u_top v-top : ℕ} {u v : List ℕ} (asked 
     short = move.u_short;
   }
 
-  pub v-asked : ColumnsInBuffer p reciprocal c e n w v-top k l v
+  pub v-asked : ColumnsInBuffer p reciprocal c e n w v_top k l v
   v-asked = record {
     multiplier = record { ready = ready; factor = c_below; room = move.v_room };
     size = move.v_size;
@@ -80,7 +80,7 @@ module _ {p reciprocal n w l k e c f u_top v-top : ℕ} {u v : List ℕ} (asked 
   }
 
 -- with the multiple that a division gives
-pub follow-asked : {p reciprocal n w l k a b d e c f u_top v-top : ℕ} {u v : List ℕ}
-    → Ready p reciprocal → MoveAsked p n w l k d u_top v-top u v → Divided p a b d e c f
-    → FollowAsked p reciprocal n w l k e c f u_top v-top u v
+pub follow-asked : {p reciprocal n w l k a b d e c f u_top v_top : ℕ} {u v : List ℕ}
+    → Ready p reciprocal → MoveAsked p n w l k d u_top v_top u v → Divided p a b d e c f
+    → FollowAsked p reciprocal n w l k e c f u_top v_top u v
 follow-asked ready move g = record { ready = ready; c_below = g.c_below; f_below = negative-below g; move = rw g.e_is move }

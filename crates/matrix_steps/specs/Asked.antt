@@ -16,8 +16,8 @@ pub record LowerAsked (p reciprocal m w l k : ℕ) (high low : Pivot) (r : List 
   pub k_short : Short w low.degree.0 m (spot m w k) r
 
 -- rows l and k of U and columns l and k of V, such that x^e times row k fits U, and x^e times column l fits V: of a cell of row k of U the
--- lowest u_top places can be other than zero, and of one of column l of V v-top
-pub record MoveAsked (p n w l k e u_top v-top : ℕ) (u v : List ℕ) : Type 0 where
+-- lowest u_top places can be other than zero, and of one of column l of V v_top
+pub record MoveAsked (p n w l k e u_top v_top : ℕ) (u v : List ℕ) : Type 0 where
   pub u_size : length u ≡ n * (n * (n * w))
   pub v_size : length v ≡ n * (n * w)
   pub u_residues : Coefficients p u
@@ -26,16 +26,16 @@ pub record MoveAsked (p n w l k e u_top v-top : ℕ) (u v : List ℕ) : Type 0 w
   pub k_fits : k < n
   pub differ : l ≢ k
   pub u_short : Short (n * w) u_top n (spot n (n * w) k) u
-  pub v_short : Short w v-top n (λ i. spot n w i l) v
+  pub v_short : Short w v_top n (λ i. spot n w i l) v
   pub u_room : e + u_top ≤ n * w
-  pub v_room : e + v-top ≤ w
+  pub v_room : e + v_top ≤ w
 
 -- such rows and columns, and two residues
-pub record FollowAsked (p reciprocal n w l k e c f u_top v-top : ℕ) (u v : List ℕ) : Type 0 where
+pub record FollowAsked (p reciprocal n w l k e c f u_top v_top : ℕ) (u v : List ℕ) : Type 0 where
   pub ready : Ready p reciprocal
   pub c_below : c < p
   pub f_below : f < p
-  pub move : MoveAsked p n w l k e u_top v-top u v
+  pub move : MoveAsked p n w l k e u_top v_top u v
 
 -- buffers for R, U and V, of which a cell of U has n·(d+1) places
 pub record Sizes (n m w : ℕ) (r u v : List ℕ) : Type 0 where

@@ -92,7 +92,7 @@ impl Residue {
 
     pub fn sum(self, b: Residue, md: Modulus) -> Residue
         requires ready { Ready md.p md.reciprocal }
-        requires fact { Residues₂ md.p self.0 b.0 }
+        requires residues { Residues₂ md.p self.0 b.0 }
         ensures { result.0 ≡ (self.0 + b.0) % md.p }
     {
         let s = (self.0 as u32) + (b.0 as u32);
@@ -105,7 +105,7 @@ impl Residue {
 
     pub fn difference(self, b: Residue, md: Modulus) -> Residue
         requires ready { Ready md.p md.reciprocal }
-        requires fact { Residues₂ md.p self.0 b.0 }
+        requires residues { Residues₂ md.p self.0 b.0 }
         ensures { result.0 ≡ (self.0 + (md.p - b.0)) % md.p }
     {
         if b.0 <= self.0 {
@@ -125,7 +125,7 @@ impl Residue {
     // The rule of one place: c times y is added, and the sum fits 32 bits.
     pub(crate) fn plus_product(self, c: Residue, y: Residue, md: Modulus) -> Residue
         requires ready { Ready md.p md.reciprocal }
-        requires fact { Residues₂ md.p c.0 y.0 }
+        requires residues { Residues₂ md.p c.0 y.0 }
         ensures { result.0 ≡ (self.0 + c.0 * y.0) % md.p }
     {
         Residue(md.remainder((self.0 as u32) + (c.0 as u32) * (y.0 as u32)))

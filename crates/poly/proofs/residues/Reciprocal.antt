@@ -10,7 +10,7 @@ use Rattle.poly.specs.residues.Modulus.{Ready}
 pub once-over : (p s : ℕ) → p ≤ s → s - p < p → s - p ≡ s % p
 once-over p s h low = sym (mod-eq-sub-mod h ∙ mod-eq_of_lt low)
 
-module _ (x p i : ℕ) (x_Fits : x < 4294967296) (ready : Ready p i) where
+module _ (x p i : ℕ) (x_fits : x < 4294967296) (ready : Ready p i) where
   -- what stands for the quotient, and what the two divisions leave
   q : ℕ
   q = x * i / 4294967296
