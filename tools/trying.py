@@ -18,7 +18,6 @@ from typing import NamedTuple
 from edits import changed_texts, renamed_texts
 from sources import CRATES, TOP, layers
 
-AT_ONCE = 2  # checks; each takes more processors where there are some
 LOGS = TOP / "target/must-fail"
 PARTS = ("src", "specs", "proofs")
 USES = {crate: [used for used in uses if (CRATES / used).is_dir()] for _, crates in layers() for crate, uses in crates.items()}
@@ -36,6 +35,16 @@ def below(crate):
     return list(dict.fromkeys([other for used in USES[crate] for other in below(used)] + [crate]))
 
 
+@lru_cache(None)
+def at_once():
+    """How many checks run at a time: RT_JOBS says so, as it does to `rt ci`; else one for each processor, if memory has 4 GB for each."""
+    said = os.environ.get("RT_JOBS", "")
+    if said.isdigit() and int(said):
+        return int(said)
+    free = re.search(r"MemAvailable:\s+(\d+) kB", Path("/proc/meminfo").read_text())
+    return max(1, min(len(os.sched_getaffinity(0)), int(free[1]) // 4_000_000))
+
+
 def say(what):
     sys.stderr.write(f"must_fail_reasons: {what}\n")  # in one piece, for several checks say something at once
 
@@ -45,7 +54,7 @@ def ready(crates):
     if len(crates) < len(USES) / 2:
         return {crate for crate in sorted(crates, key=list(USES).index) if proves(crate)}
     say("rt all check; takes minutes where crates are not proved yet")
-    done = subprocess.run(["rt", "all", "check"], cwd=TOP, stdin=subprocess.DEVNULL, stdout=subprocess.PIPE, text=True)
+    done = subprocess.run(["rt", "all", "check", "--jobs", str(at_once())], cwd=TOP, stdin=subprocess.DEVNULL, stdout=subprocess.PIPE, text=True)
     return set(re.findall(r"(?m)^(\w+): ok$", done.stdout.rpartition("== summary\n")[2]))
 
 
@@ -103,9 +112,9 @@ def give_proved(old, new):
 
 def copied(crate, to):
     """Copies a crate and those below it, with what checks kept of them."""
-    lines = (TOP / "crates.txt").read_text().splitlines()
     wanted = below(crate)
-    (to / "crates.txt").write_text("".join(f"{line}\n" for line in lines if line.partition(":")[0].split()[:1] and line.split(":")[0].split()[0] in wanted))
+    lines = (TOP / "crates.txt").read_text().splitlines(True)
+    (to / "crates.txt").write_text("".join(line for line in lines if {*line.partition(":")[0].split()[:1]} & {*wanted}))
     for name in wanted:
         for part in PARTS:
             if (CRATES / name / part).is_dir():
@@ -122,7 +131,8 @@ def run(crate, texts):
         folder = Path(room) / "crates" / crate
         for file, text in texts.items():
             (folder / file).write_text(text)
-        done = subprocess.run(["rt", "check"], cwd=folder, stdin=subprocess.DEVNULL, stdout=subprocess.PIPE, stderr=subprocess.STDOUT, text=True, errors="replace")
+        how = {"stdin": subprocess.DEVNULL, "stdout": subprocess.PIPE, "stderr": subprocess.STDOUT}
+        done = subprocess.run(["rt", "check", "--jobs", "1"], cwd=folder, text=True, errors="replace", **how)
         # what it says as it goes it says again at the end
         lines = [line for line in done.stdout.splitlines() if not re.match(r"so far: |checked \S+, \d+ of \d+$", line)]
         return "\n".join([*lines, f"status {done.returncode}", ""])
