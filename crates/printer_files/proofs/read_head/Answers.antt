@@ -9,13 +9,13 @@ use Rattle.printer_files.proofs.read_head.Goals.{In-Read, In-Read-read_field, In
 one_line : (c : In-Read) → Heading c.args.s.now (c.in-Read.p ∷ []) 3 1 c.in-Read.i
 one_line c = heading-next _ (heading-start _) c.in-Read.ensures
 
-two-lines : (c : In-Read-read_field)
+two_lines : (c : In-Read-read_field)
     → Heading c.args.s.now (c.in-Read.p ∷ c.in-Read-read_field.n ∷ []) 2 2 c.in-Read-read_field.j
-two-lines c = heading-next _ (heading-next _ (heading-start _) c.in-Read.ensures) c.in-Read-read_field.ensures
+two_lines c = heading-next _ (heading-next _ (heading-start _) c.in-Read.ensures) c.in-Read-read_field.ensures
 
-three-lines : (c : In-Read-read_field-2)
+three_lines : (c : In-Read-read_field-2)
     → Heading c.args.s.now (c.in-Read.p ∷ c.in-Read-read_field.n ∷ c.in-Read-read_field-2.m ∷ []) 1 3 c.in-Read-read_field-2.k
-three-lines c =
+three_lines c =
     heading-next _ (heading-next _ (heading-next _ (heading-start _) c.in-Read.ensures) c.in-Read-read_field.ensures)
     c.in-Read-read_field-2.ensures
 
@@ -32,22 +32,22 @@ returns-in_default-read_field c =
     heading-wrong _ (one_line (goal.at.returns-in_default-read_field c).In-Read) c.in_default-read_field.ensures
 
 pub read_field-requires-3 : goal.read_field-requires-3
-read_field-requires-3 c = (two-lines (goal.at.read_field-requires-3 c).In-Read-read_field).inside
+read_field-requires-3 c = (two_lines (goal.at.read_field-requires-3 c).In-Read-read_field).inside
 
 pub returns-in_default-read_field-2 : goal.returns-in_default-read_field-2
 returns-in_default-read_field-2 c =
-    heading-wrong _ (two-lines (goal.at.returns-in_default-read_field-2 c).In-Read-read_field)
+    heading-wrong _ (two_lines (goal.at.returns-in_default-read_field-2 c).In-Read-read_field)
     c.in_default-read_field-2.ensures
 
 pub read_field-requires-4 : goal.read_field-requires-4
-read_field-requires-4 c = (three-lines (goal.at.read_field-requires-4 c).In-Read-read_field-2).inside
+read_field-requires-4 c = (three_lines (goal.at.read_field-requires-4 c).In-Read-read_field-2).inside
 
 pub returns-in_default-read_field-3 : goal.returns-in_default-read_field-3
 returns-in_default-read_field-3 c =
-    heading-wrong _ (three-lines (goal.at.returns-in_default-read_field-3 c).In-Read-read_field-2)
+    heading-wrong _ (three_lines (goal.at.returns-in_default-read_field-3 c).In-Read-read_field-2)
     c.in_default-read_field-3.ensures
 
 pub returns : goal.returns
 returns c =
     heading-end _
-    (heading-next _ (three-lines (goal.at.returns c).In-Read-read_field-2) c.in-Read-read_field-3.ensures)
+    (heading-next _ (three_lines (goal.at.returns c).In-Read-read_field-2) c.in-Read-read_field-3.ensures)

@@ -1,9 +1,16 @@
 use native.Mathlib.Numerals.{add-one}
 use native.Mathlib.Omega.{arith}
 use mathlib.Core.Path.{sym, ◌∙◌}
+use Prim.Native.Nat.{◌*◌, ◌-◌, ◌≤◌}
+use lib.ListN.{length}
 use lib.Seq.{length-take-le}
 use Rattle.matrix_determinant.proofs.Turning.{reduce-asked, next_small, take-asked, next-front, front-room, left-asked, staged}
 use Rattle.matrix_determinant.proofs.stages.stage.Goals as goal
+use Rattle.matrix_determinant.proofs.stages.stage.Goals.{After-columns-room}
+
+-- the room holds what is left of the columns
+room : (c : After-columns-room) → c.args.m * ((c.args.m - 1) * c.args.w) ≤ length c.columns-room.result
+room c = omega (arith, next_small c.requires, c.columns-room.ensures.0)
 
 pub reduce_columns-pivots-requires : goal.reduce_columns-pivots-requires
 reduce_columns-pivots-requires c = reduce-asked c.requires
@@ -15,15 +22,15 @@ pub overflow_mul-end-2 : goal.overflow_mul-end-2
 overflow_mul-end-2 c = omega (arith, next_small c.requires)
 
 pub slice_bounds-room-end : goal.slice_bounds-room-end
-slice_bounds-room-end c =
-    omega (arith, next_small c.requires, c.columns-room.ensures.0)
+slice_bounds-room-end c = room (goal.at.slice_bounds-room-end c).After-columns-room
 
 pub slice_bounds-take_out-end : goal.slice_bounds-take_out-end
-slice_bounds-take_out-end c = sym (length-take-le _ _ (omega (arith, next_small c.requires, c.columns-room.ensures.0)))
+slice_bounds-take_out-end c = sym (length-take-le _ _ (room (goal.at.slice_bounds-take_out-end c).After-columns-room))
 
 pub take_out-requires : goal.take_out-requires
 take_out-requires c =
-    take-asked c.requires c.reduce_columns-pivots.ensures (length-take-le _ _ (omega (arith, next_small c.requires, c.columns-room.ensures.0)))
+    take-asked c.requires c.reduce_columns-pivots.ensures
+    (length-take-le _ _ (room (goal.at.take_out-requires c).After-columns-room))
 
 pub slice_bounds-room-end-2 : goal.slice_bounds-room-end-2
 slice_bounds-room-end-2 c = next-front c.take_out.ensures _

@@ -9,7 +9,10 @@ loop-i-init c = changing-start _ _
 
 pub plus_product-requires : goal.plus_product-requires
 plus_product-requires c =
-    record { ready = c.requires.ready; residues = record { left = c.requires.factor; right = rw c.held-in-loop-i.ensures (c.requires.source.below _ (omega arith)) } }
+    record {
+      ready = c.requires.ready;
+      residues = record { left = c.requires.factor; right = rw c.held-in-loop-i.ensures (c.requires.source.below _ (omega arith)) };
+    }
 
 pub loop-i-preserved : goal.loop-i-preserved
 loop-i-preserved c =
