@@ -1,1 +1,22 @@
+// What a buffer holds that a caller lends for a matrix: its shape, and in specs/ what is said of its places.
 #![tactic(auto)]
+
+ghost use Rattle.std.specs.Prelude.{◌≡◌, ◌*◌, ◌<◌};
+
+// A matrix of n rows and m columns, cell behind cell and row by row, each cell of w places.
+#[derive(Clone, Copy)]
+pub struct Shape {
+    pub n: usize,
+    pub m: usize,
+    pub w: usize,
+}
+
+impl Shape {
+    // The places of a row.
+    pub fn row(self) -> usize
+        requires { self.m * self.w < 18446744073709551616 }
+        ensures { result ≡ self.m * self.w }
+    {
+        self.m * self.w
+    }
+}
