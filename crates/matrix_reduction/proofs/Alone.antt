@@ -28,7 +28,7 @@ use Rattle.matrix_reduction.proofs.Loop.{Kept, Going, first, at-end, pair_held, 
 abbrev pub NothingElse : {p : ℕ} → Kept p
 NothingElse P some t = Unit {0}
 
-module _ {p reciprocal n m w : ℕ} {a : List ℕ} (input : Checked p reciprocal n m w a) where
+module _ {p n m w : ℕ} {a : List ℕ} (input : Checked p n m w a) where
   open input.bounds use {columns}
 
   pub alone-start : {pivots : List Pivot} → AllPivots n m (values_of m w a) pivots → Going p n m w NothingElse a a pivots 0

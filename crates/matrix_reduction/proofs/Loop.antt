@@ -2,6 +2,7 @@
 -- from the beginning, and the sum of the values falls.
 use mathlib.Core.Path.{◌≡◌, refl, sym, ap, subst, ◌∙◌}
 use mathlib.Core.List.{List}
+use mathlib.Core.Option.{Some}
 use Prim.Native.Nat.{ℕ, zero, suc, ◌+◌, ◌*◌, ◌≤◌, ◌<◌}
 use native.Mathlib.Omega.{arith}
 use native.Mathlib.Nat as N
@@ -28,7 +29,7 @@ use Rattle.matrix_buffers.proofs.Bounds.{matrix-few}
 use Rattle.matrix_pivots.specs.NextPair.{NextAsked, IsNextOf}
 use Rattle.matrix_pivots.specs.Pivot.{values_of, zero_row, index_at, Pivots, AllPivots}
 use Rattle.matrix_pivots.specs.declared.pivot.Pivot.{Pivot}
-use Rattle.matrix_pivots.specs.declared.next_pair.Next.TheVariants.{Rows}
+use Rattle.matrix_pivots.specs.declared.next_pair.Pair.{Pair as Rows}
 use Rattle.matrix_pivots.proofs.NextPair as Next
 use Rattle.matrix_steps.specs.Asked.{LowerAsked}
 use Rattle.matrix_steps.specs.Subtraction.{IsLowered}
@@ -49,7 +50,13 @@ module _ {p : ℕ} (P : Prime p) {n m w : ℕ} (columns : 0 < m) (t : Carried (Z
   pub at-end : NoPair n m (values_of m w r) → NoPair n m (values K m w t.R)
   at-end = no-pair-same n m _ _ agree
 
-  module _ {l k : ℕ} (next : IsNextOf n m (values_of m w r) (Rows l k)) where
+  module _ {rows : Rows} (next : IsNextOf n m (values_of m w r) (Some rows)) where
+    abbrev l : ℕ
+    l = rows.l
+
+    abbrev k : ℕ
+    k = rows.k
+
     the-pair : (q : Pair n m (values K m w t.R)) × (target m (values K m w t.R) q.a q.b ≡ (l, k))
     the-pair = pair_same n m _ _ agree next.0 (l, k) next.1
 
@@ -80,7 +87,7 @@ Kept p = (P : Prime p) (some : 0 < p) → Carried (Zp p) → Type 0
 -- at the loop's head
 pub record Going (p n m w : ℕ) (Also : Kept p) (a r : List ℕ) (pivots : List Pivot) (count : ℕ) : Type 0 where
   pub r-same : length r ≡ length a
-  pub room : length pivots ≡ 8
+  pub room : length pivots ≡ n
   pub found : Pivots n m (values_of m w r) pivots
   pub at : (P : Prime p) (some : 0 < p) → Onward p P some n m w a r count (Also P some)
   pub budget : count + total n (values_of m w r) ≤ total n (values_of m w a)
@@ -91,8 +98,8 @@ unfolding index
 sign-index m zero = refl
 sign-index m (suc v) = refl
 
-module _ {p reciprocal n m w : ℕ} {a : List ℕ} (input : Checked p reciprocal n m w a) where
-  open input use {ready, prime, bounds}
+module _ {p n m w : ℕ} {a : List ℕ} (input : Checked p n m w a) where
+  open input use {prime, bounds}
 
   pub positive : 0 < p
   positive = omega (arith, prime.two)
@@ -143,7 +150,13 @@ module _ {p reciprocal n m w : ℕ} {a : List ℕ} (input : Checked p reciprocal
           ∙ ap sign (agree P bounds.columns t (inv.at P some).held i l))
 
     -- a turn of the loop: rows l and k are to be reduced
-    module _ {l k : ℕ} (next : IsNextOf n m (values_of m w r) (Rows l k)) where
+    module _ {rows : Rows} (next : IsNextOf n m (values_of m w r) (Some rows)) where
+      abbrev l : ℕ
+      l = rows.l
+
+      abbrev k : ℕ
+      k = rows.k
+
       abbrev high : Pivot
       high = get_or pivots l zero_row
 
@@ -157,8 +170,8 @@ module _ {p reciprocal n m w : ℕ} {a : List ℕ} (input : Checked p reciprocal
       pub rows_fit : (l < 8) × (k < 8)
       rows_fit = (omega (arith, reducing.l_fits, bounds.rows_most), omega (arith, reducing.k_fits, bounds.rows_most))
 
-      pub lower-asked : LowerAsked p reciprocal m w l k high low r
-      lower-asked = RowsOf.lower-asked n m w bounds.columns r size inv.found ready prime
+      pub lower-asked : LowerAsked p m w l k high low r
+      lower-asked = RowsOf.lower-asked n m w bounds.columns r size inv.found prime
           (held-coefficients (by_rows n m w) p (inv.at prime positive).held) reducing
 
       -- after the step

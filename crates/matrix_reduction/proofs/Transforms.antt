@@ -57,14 +57,14 @@ pub record Transforms (p n m w : ℕ) (a u v : List ℕ) (P : Prime p) (some : 0
   pub narrow : Narrow (zp_field p P) n m w (matrix_of (by_rows n m w) p some a) t
 
 -- what the step on U and V asks, once that on the matrix is made
-pub follow-asked : {p reciprocal n m w l k reach : ℕ} {high low : Pivot} {r u v r' : List ℕ} {x : Lowered}
-    → AdvanceAsked p reciprocal n m w l k high low reach r u v → IsLowered p m w l k high low r r' x
-    → FollowAsked p reciprocal n w l k x.multiple.exponent x.multiple.factor.0 x.multiple.negated.0
+pub follow-asked : {p n m w l k reach : ℕ} {high low : Pivot} {r u v r' : List ℕ} {x : Lowered}
+    → AdvanceAsked p n m w l k high low reach r u v → IsLowered p m w l k high low r r' x
+    → FollowAsked p n w l k x.multiple.exponent x.multiple.factor.0 x.multiple.negated.0
     reach (w + 1 - high.degree.0) u v
-follow-asked asked lowered = LinesAsked.follow-asked asked.lower.plan.ready asked.move lowered.factor
+follow-asked asked lowered = LinesAsked.follow-asked asked.move lowered.factor
 
 -- after `count` steps on the matrix in a
-module _ {p reciprocal n m w : ℕ} {a : List ℕ} (input : Checked p reciprocal n m w a) (P : Prime p) (some : 0 < p)
+module _ {p n m w : ℕ} {a : List ℕ} (input : Checked p n m w a) (P : Prime p) (some : 0 < p)
     {r u v : List ℕ} {count : ℕ} (at : Onward p P some n m w a r count (Transforms p n m w a u v P some)) where
   open input.bounds use {columns, places}
 
@@ -137,7 +137,7 @@ pub record Running (p n m w : ℕ) (a u₀ v₀ r u v : List ℕ) (pivots : List
   pub least-is : (i : ℕ) → i < n → least ≤ degrees_of m w a i
   pub above : (i : ℕ) → i < n → least ≤ degree_at pivots i - 1 + spent
 
-module _ {p reciprocal n m w : ℕ} {a u₀ v₀ : List ℕ} (asked : StartAsked p reciprocal n m w a u₀ v₀) where
+module _ {p n m w : ℕ} {a u₀ v₀ : List ℕ} (asked : StartAsked p n m w a u₀ v₀) where
   open asked use {input}
   open input use {prime, bounds}
 
@@ -194,7 +194,7 @@ module _ {p reciprocal n m w : ℕ} {a u₀ v₀ : List ℕ} (asked : StartAsked
         cell-few bounds,
       )
 
-      pub advance-asked : AdvanceAsked p reciprocal n m w l k high low (low.degree.0 + spent - least) r u v
+      pub advance-asked : AdvanceAsked p n m w l k high low (low.degree.0 + spent - least) r u v
       advance-asked =
           let at = going.at prime (positive input) in
           let lower = lower-asked input going next in
