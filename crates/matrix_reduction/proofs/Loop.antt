@@ -87,7 +87,7 @@ Kept p = (P : Prime p) (some : 0 < p) → Carried (Zp p) → Type 0
 -- at the loop's head
 pub record Going (p n m w : ℕ) (Also : Kept p) (a r : List ℕ) (pivots : List Pivot) (count : ℕ) : Type 0 where
   pub r-same : length r ≡ length a
-  pub room : length pivots ≡ n
+  pub room : length pivots ≡ 8
   pub found : Pivots n m (values_of m w r) pivots
   pub at : (P : Prime p) (some : 0 < p) → Onward p P some n m w a r count (Also P some)
   pub budget : count + total n (values_of m w r) ≤ total n (values_of m w a)
@@ -134,7 +134,7 @@ module _ {p n m w : ℕ} {a : List ℕ} (input : Checked p n m w a) where
     pub count_fits : count ≤ 4096
     count_fits = omega (arith, inv.budget, values-total m w a n, matrix-few bounds, ap (λ (x : ℕ). n * x) (N.mul_comm w m))
 
-    pub next-asked : NextAsked n pivots
+    pub next-asked : NextAsked (take n pivots)
     next-asked = Next.next-asked bounds.rows_most bounds.columns bounds.columns_most inv.found
 
     -- where no step applies, the reduction is made, and the pivots tell the rank

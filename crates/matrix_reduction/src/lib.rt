@@ -38,18 +38,18 @@ pub fn run(
     requires { StartAsked md.p shape.n shape.m shape.w r.old u.old v.old }
     ensures { IsReduction md.p shape.n shape.m shape.w r.old r.new u.new v.new result.rank result.count }
 {
-    let mut all = pivot::all(r, shape);
-    let pivots = &mut all[..shape.n];
-    let least = pivot::least(pivots, shape.w);
+    let n = shape.n;
+    let mut pivots = pivot::all(r, shape);
+    let least = pivot::least(&pivots[..n], shape.w);
     let mut count: u64 = 0;
     let mut spent: usize = 0;
-    while let Some(step) = next_step(pivots) {
+    while let Some(step) = next_step(&pivots[..n]) {
         let reach = step.low.degree.places() + spent - least;
         let new = advance::advance(r, u, v, shape, step, reach, md);
         spent += step.high.degree.or_zero() - new.degree.or_zero();
         pivots[step.pair.l] = new;
         count += 1;
     }
-    let rank = pivot::rank(pivots);
+    let rank = pivot::rank(&pivots[..n]);
     Reached { rank, count }
 }

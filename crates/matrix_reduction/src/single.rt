@@ -12,8 +12,8 @@ pub fn once(r: &mut [u16], shape: Shape, md: Modulus) -> u64
     requires { Checked md.p shape.n shape.m shape.w r.old }
     ensures { SteppedOnce md.p shape.n shape.m shape.w result r.old r.new }
 {
-    let all = pivot::all(r, shape);
-    let Some(step) = next_step(&all[..shape.n]) else {
+    let pivots = pivot::all(r, shape);
+    let Some(step) = next_step(&pivots[..shape.n]) else {
         return 0;
     };
     lower(r, shape, step, md);

@@ -14,14 +14,14 @@ pub fn run_alone(r: &mut [u16], shape: Shape, md: Modulus) -> Reached
     requires { Checked md.p shape.n shape.m shape.w r.old }
     ensures { IsReducedAlone md.p shape.n shape.m shape.w r.old r.new result.rank result.count }
 {
-    let mut all = pivot::all(r, shape);
-    let pivots = &mut all[..shape.n];
+    let n = shape.n;
+    let mut pivots = pivot::all(r, shape);
     let mut count: u64 = 0;
-    while let Some(step) = next_step(pivots) {
+    while let Some(step) = next_step(&pivots[..n]) {
         let new = lower(r, shape, step, md).pivot;
         pivots[step.pair.l] = new;
         count += 1;
     }
-    let rank = pivot::rank(pivots);
+    let rank = pivot::rank(&pivots[..n]);
     Reached { rank, count }
 }
