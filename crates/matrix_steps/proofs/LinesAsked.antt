@@ -5,10 +5,10 @@ use Prim.Native.Nat.{ℕ, ◌+◌, ◌-◌, ◌*◌, ◌≤◌}
 use native.Mathlib.Nat.{mul-zero, zero-mod}
 use native.Mathlib.Omega.{arith}
 use borrow.Author.Tests.{le-leb}
-use Rattle.theory_lists.proofs.Grid.{line-end}
 use Rattle.theory_lists.specs.Place.{spot}
 use Rattle.matrix_buffers.specs.Added.{RowAdded}
 use Rattle.matrix_rows.specs.Asked.{Short, RowsInBuffer, ColumnsInBuffer}
+use Rattle.matrix_rows.proofs.Lines.{two-rows}
 use Rattle.matrix_pivots.specs.Pivot.{RowOfAsked}
 use Rattle.matrix_pivots.specs.declared.pivot.Pivot.{Pivot}
 use Rattle.matrix_steps.proofs.multiple.Below.{negative-below}
@@ -27,9 +27,7 @@ module _ {p m w l k : ℕ} {high low : Pivot} {r : List ℕ} (asked : LowerAsked
   pub row-asked : RowsInBuffer p f e m w low.degree.0 l k r
   row-asked = record {
     multiplier = record { factor = negative-below g; room = omega (arith, exponent, high-most) };
-    l_fits = asked.plan.l_pivot.leading.row;
-    k_fits = asked.plan.k_pivot.leading.row;
-    differ = asked.differ;
+    rows = record { i_fits = asked.plan.l_pivot.leading.row; j_fits = asked.plan.k_pivot.leading.row; differ = asked.differ };
     residues = asked.plan.residues;
     short = asked.k_short;
   }
@@ -60,9 +58,7 @@ module _ {p n w l k e c f u_top v_top : ℕ} {u v : List ℕ} (asked : FollowAsk
   pub u-asked : RowsInBuffer p f e n (n * w) u_top l k u
   u-asked = record {
     multiplier = record { factor = f_below; room = move.u_room };
-    l_fits = omega (arith, move.u_size, line-end l n (n * (n * w)) move.l_fits);
-    k_fits = omega (arith, move.u_size, line-end k n (n * (n * w)) move.k_fits);
-    differ = move.differ;
+    rows = two-rows move.u_size move.l_fits move.k_fits move.differ;
     residues = move.u_residues;
     short = move.u_short;
   }
@@ -70,10 +66,7 @@ module _ {p n w l k e c f u_top v_top : ℕ} {u v : List ℕ} (asked : FollowAsk
   pub v-asked : ColumnsInBuffer p c e n w v_top k l v
   v-asked = record {
     multiplier = record { factor = c_below; room = move.v_room };
-    size = move.v_size;
-    x_fits = move.k_fits;
-    y_fits = move.l_fits;
-    differ = λ q. move.differ (sym q);
+    columns = record { size = move.v_size; x_fits = move.k_fits; y_fits = move.l_fits; differ = λ q. move.differ (sym q) };
     residues = move.v_residues;
     short = move.v_short;
   }

@@ -48,13 +48,13 @@ pub fn lower(r: &mut [u16], shape: Shape, step: Step, md: Modulus) -> Lowered
     requires { LowerAsked md.p shape.m shape.w step.pair.l step.pair.k step.high step.low r.old }
     ensures { IsLowered md.p shape.m shape.w step.pair.l step.pair.k step.high step.low r.old r.new result }
 {
-    let pair = step.pair;
-    let multiple = multiple::plan(r, shape, step, md);
+    let Pair { l, k } = step.pair;
+    let x = multiple::plan(r, shape, step, md);
     let from = step.low.degree.places();
     let until = step.high.degree.places();
-    add_row(r, shape, pair.l, pair.k, from, multiple.negated, multiple.exponent, md);
-    let pivot = Pivot::of_row(r, shape, pair.l, until);
-    Lowered { multiple, pivot }
+    add_row(r, shape, l, k, from, x.negated, x.exponent, md);
+    let pivot = Pivot::of_row(r, shape, l, until);
+    Lowered { multiple: x, pivot }
 }
 
 // How many of the lowest places of a cell can be other than zero, in row k of U and in column l of V: only these are read.
@@ -77,8 +77,13 @@ pub fn follow(
     requires { FollowAsked md.p shape.n shape.w pair.l pair.k x.exponent x.factor.0 x.negated.0 top.u top.v u.old v.old }
     ensures { Followed md.p shape.n shape.w pair.l pair.k x.exponent x.factor.0 x.negated.0 u.old v.old u.new v.new }
 {
+    let Pair { l, k } = pair;
     let n = shape.n;
-    let of_u = Shape { n, m: n, w: n * shape.w };
-    add_row(u, of_u, pair.l, pair.k, top.u, x.negated, x.exponent, md);
-    add_column(v, n, shape.w, pair.k, pair.l, top.v, x.factor, x.exponent, md);
+    let of_u = Shape {
+        n,
+        m: n,
+        w: n * shape.w,
+    };
+    add_row(u, of_u, l, k, top.u, x.negated, x.exponent, md);
+    add_column(v, n, shape.w, k, l, top.v, x.factor, x.exponent, md);
 }
