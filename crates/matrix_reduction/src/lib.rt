@@ -28,13 +28,7 @@ pub struct Reached {
 // its row l anew. `spent` is what the pivot degrees have lost together since the start: no cell of row k of U has a degree above that of
 // row k and `spent`, less the least pivot degree of the input. R, U and V are three lent slices here and wherever they go together: a
 // struct of them would ask one more clause for each in every contract, that its field still lends what it lent.
-pub fn run(
-    r: &mut [u16],
-    u: &mut [u16],
-    v: &mut [u16],
-    shape: Shape,
-    md: Modulus,
-) -> Reached
+pub fn run(r: &mut [u16], u: &mut [u16], v: &mut [u16], shape: Shape, md: Modulus) -> Reached
     requires { StartAsked md.p shape.n shape.m shape.w r.old u.old v.old }
     ensures { IsReduction md.p shape.n shape.m shape.w r.old r.new u.new v.new result.rank result.count }
 {
