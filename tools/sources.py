@@ -3,7 +3,9 @@ these are public.
 
 A function is public if another crate can name it: it is `pub`, and stands in `lib.rt` or in a module that is `pub` all the
 way, or is re-exported from such a place by `pub use`, itself or its type. Its public name is the one that another crate writes
-after the crate's: `Type::function`, `function` or `module::function`.
+after the crate's: `Type::function`, `function` or `module::function`. A function of an impl of a trait stands under the name
+that the prover has for the impl, as `ResidueFromU16` for `impl From<u16> for Residue`; what a ghost member there says of the
+results counts as its `ensures`, and it is public if there is one.
 """
 import re
 from functools import lru_cache
@@ -14,6 +16,8 @@ TOP = Path(__file__).resolve().parent.parent
 CRATES = TOP / "crates"
 
 FUNCTION = re.compile(r'(\s*)(pub |pub\(crate\) )?(?:extern "C" )?fn (\w+)')
+IMPL = re.compile(r"impl (?:(\w+)(?:<(\w+)>)? for )?(\w+)")
+MEMBER = re.compile(r"\s+ghost \w+ = (\{.*\});")
 CLAUSE = re.compile(r"(requires|ensures)(?: [\w-]+)? \{")
 
 
@@ -69,21 +73,25 @@ def module_of(file):
 
 def functions_of(crate, file, folder=None):
     """The functions of a source. `folder` has it where it is not the crate's own, as the copy of an edit."""
-    owner, start, head = "", None, []
+    owner, promise, start, head = "", "", None, []
     for number, line in enumerate(((folder or CRATES / crate) / file).read_text().splitlines(), 1):
-        if found := re.match(r"impl (\w+)", line):
-            owner = found[1]
+        if found := IMPL.match(line):
+            owner, promise = "".join(word[0].upper() + word[1:] for word in (found[3], found[1], found[2]) if word), ""
+        elif found := MEMBER.match(line):
+            promise = found[1]
         elif line == "}" and start is None:
-            owner = ""
+            owner, promise = "", ""
         if start is None and (found := FUNCTION.match(line)):
             indent, visible, name = found.groups()
             start, body, head = number, None, []
         if start is not None and body is None:
             head.append(line.strip())
             body = number if line.endswith("{") else None
+            if body and promise:
+                head.append(f"ensures {promise}")
         if start is not None and line == indent + "}":
             path = [*module_of(file), *([owner] if indent else []), name]
-            yield Function(crate, file, "::".join(path), visible == "pub ", head, start, body, number)
+            yield Function(crate, file, "::".join(path), visible == "pub " or bool(promise), head, start, body, number)
             start = None
 
 

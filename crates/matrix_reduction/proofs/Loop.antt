@@ -5,7 +5,8 @@ use mathlib.Core.List.{List}
 use Prim.Native.Nat.{ℕ, zero, suc, ◌+◌, ◌*◌, ◌≤◌, ◌<◌}
 use native.Mathlib.Omega.{arith}
 use native.Mathlib.Nat as N
-use lib.ListN.{length, get_or, set, length-set}
+use Rattle.std.specs.Prelude.{Some}
+use lib.ListN.{length, get_or, set, take, length-set}
 use Rattle.theory_algebra.specs.Field.{Field}
 use Rattle.theory_algebra.specs.Prime.{Prime}
 use Rattle.theory_algebra.specs.Residue.{Zp}
@@ -18,7 +19,7 @@ use Rattle.theory_reduction.specs.Pair.{Pair, NoPair, target, StepRows}
 use Rattle.theory_reduction.specs.Step.{Carried, begin, advance}
 use Rattle.theory_reduction.specs.Process.{halt, more}
 use Rattle.theory_reduction.specs.Run.{advance_pair, Runs}
-use Rattle.theory_reduction.specs.Rank.{sign, chosen, rank}
+use Rattle.theory_reduction.specs.Rank.{sign, rank}
 use Rattle.theory_reduction.proofs.Pair.{pair-rows, no-pair-same, pair_same}
 use Rattle.matrix_promises.specs.Held.{Held, matrix_of}
 use Rattle.matrix_promises.specs.Layout.{by_rows}
@@ -26,15 +27,18 @@ use Rattle.matrix_promises.proofs.Held.{held-matrix_of, held-coefficients}
 use Rattle.matrix_buffers.specs.Bounds.{Checked}
 use Rattle.matrix_buffers.proofs.Bounds.{matrix-few}
 use Rattle.matrix_pivots.specs.NextPair.{NextAsked, IsNextOf}
-use Rattle.matrix_pivots.specs.Pivot.{values_of, zero_row, index_at, Pivots, AllPivots}
+use Rattle.matrix_pivots.specs.Pivot.{values_of, zero_row, Pivots, AllPivots, nonzero_rows}
 use Rattle.matrix_pivots.specs.declared.pivot.Pivot.{Pivot}
-use Rattle.matrix_pivots.specs.declared.next_pair.Next.TheVariants.{Rows}
+use Rattle.matrix_pivots.specs.declared.next_pair.Pair.{Pair as Rows}
+use Rattle.matrix_pivots.proofs.Front.{rank-front}
 use Rattle.matrix_pivots.proofs.NextPair as Next
 use Rattle.matrix_steps.specs.Asked.{LowerAsked}
 use Rattle.matrix_steps.specs.Subtraction.{IsLowered}
 use Rattle.matrix_steps.specs.declared.Lowered.{Lowered}
 use Rattle.matrix_steps.proofs.Value.{value-held, values-total}
 use Rattle.matrix_steps.proofs.Moving.{step-held, step_falls}
+use Rattle.matrix_steps.specs.declared.Step.{Step}
+use Rattle.matrix_steps.proofs.Next.{StepOf}
 use Rattle.matrix_steps.proofs.RowsOf as RowsOf
 
 -- r holds the matrix of a state: its values are those of the matrix, and so are its pair and the step
@@ -49,17 +53,17 @@ module _ {p : ℕ} (P : Prime p) {n m w : ℕ} (columns : 0 < m) (t : Carried (Z
   pub at-end : NoPair n m (values_of m w r) → NoPair n m (values K m w t.R)
   at-end = no-pair-same n m _ _ agree
 
-  module _ {l k : ℕ} (next : IsNextOf n m (values_of m w r) (Rows l k)) where
-    the-pair : (q : Pair n m (values K m w t.R)) × (target m (values K m w t.R) q.a q.b ≡ (l, k))
-    the-pair = pair_same n m _ _ agree next.0 (l, k) next.1
+  module _ {rows : Rows} (next : IsNextOf n m (values_of m w r) (Some rows)) where
+    the-pair : (q : Pair n m (values K m w t.R)) × (target m (values K m w t.R) q.a q.b ≡ (rows.l, rows.k))
+    the-pair = pair_same n m _ _ agree next.0 (rows.l, rows.k) next.1
 
     pub pair_held : Pair n m (values K m w t.R)
     pair_held = the-pair.0
 
-    pub rows-held : StepRows n m (values K m w t.R) l k
+    pub rows-held : StepRows n m (values K m w t.R) rows.l rows.k
     rows-held = pair-rows the-pair.0 the-pair.1
 
-    pub applied : advance_pair K n m w t pair_held ≡ advance K m w l k t
+    pub applied : advance_pair K n m w t pair_held ≡ advance K m w rows.l rows.k t
     unfolding advance_pair pair_held
     applied = ap (λ (x : ℕ × ℕ). advance K m w x.0 x.1 t) the-pair.1
 
@@ -91,8 +95,8 @@ unfolding index
 sign-index m zero = refl
 sign-index m (suc v) = refl
 
-module _ {p reciprocal n m w : ℕ} {a : List ℕ} (input : Checked p reciprocal n m w a) where
-  open input use {ready, prime, bounds}
+module _ {p n m w : ℕ} {a : List ℕ} (input : Checked p n m w a) where
+  open input use {prime, bounds}
 
   pub positive : 0 < p
   positive = omega (arith, prime.two)
@@ -127,7 +131,11 @@ module _ {p reciprocal n m w : ℕ} {a : List ℕ} (input : Checked p reciprocal
     pub count_fits : count ≤ 4096
     count_fits = omega (arith, inv.budget, values-total m w a n, matrix-few bounds, ap (λ (x : ℕ). n * x) (N.mul_comm w m))
 
-    pub next-asked : NextAsked n pivots
+    -- there is a pivot for each row
+    pub rows_there : n ≤ length pivots
+    rows_there = omega (arith, inv.room, bounds.rows_most)
+
+    pub next-asked : NextAsked (take n pivots)
     next-asked = Next.next-asked bounds.rows_most bounds.columns bounds.columns_most inv.found
 
     -- where no step applies, the reduction is made, and the pivots tell the rank
@@ -138,31 +146,33 @@ module _ {p reciprocal n m w : ℕ} {a : List ℕ} (input : Checked p reciprocal
       pub going-last : NoPair n m (values_of m w r) → Runs (zp_field p P) n m w count (begin (zp_field p P).ring (A some)) t
       going-last none = rw N.add-zero at ((inv.at P some).onward 0 t (halt (at-end P bounds.columns t (inv.at P some).held none)))
 
-      pub rank_is : chosen n (index_at pivots) ≡ rank (zp_field p P) n m w t.R
-      rank_is = total-same n _ _ (λ i l. ap sign (inv.found.row i l).index_is ∙ sign-index m (values_of m w r i)
+      pub rank_is : nonzero_rows (take n pivots) ≡ rank (zp_field p P) n m w t.R
+      rank_is = rank-front n pivots rows_there ∙ total-same n _ _ (λ i l. ap sign (inv.found.row i l).index_is ∙ sign-index m (values_of m w r i)
           ∙ ap sign (agree P bounds.columns t (inv.at P some).held i l))
 
-    -- a turn of the loop: rows l and k are to be reduced
-    module _ {l k : ℕ} (next : IsNextOf n m (values_of m w r) (Rows l k)) where
-      abbrev high : Pivot
-      high = get_or pivots l zero_row
+    -- a turn of the loop
+    module _ {step : Step} (on : StepOf n m (values_of m w r) pivots step) where
+      open on use {next, rows}
 
-      abbrev low : Pivot
-      low = get_or pivots k zero_row
+      abbrev l : ℕ
+      l = step.pair.l
 
-      pub reducing : StepRows n m (values_of m w r) l k
-      reducing = pair-rows next.0 next.1
+      abbrev k : ℕ
+      k = step.pair.k
 
       -- both rows have their place among eight
       pub rows_fit : (l < 8) × (k < 8)
-      rows_fit = (omega (arith, reducing.l_fits, bounds.rows_most), omega (arith, reducing.k_fits, bounds.rows_most))
+      rows_fit = (omega (arith, rows.l_fits, bounds.rows_most), omega (arith, rows.k_fits, bounds.rows_most))
 
-      pub lower-asked : LowerAsked p reciprocal m w l k high low r
-      lower-asked = RowsOf.lower-asked n m w bounds.columns r size inv.found ready prime
-          (held-coefficients (by_rows n m w) p (inv.at prime positive).held) reducing
+      pub lower-asked : LowerAsked p m w l k step.high step.low r
+      lower-asked = rw (on.high_is, on.low_is) (RowsOf.lower-asked n m w bounds.columns r size inv.found prime
+          (held-coefficients (by_rows n m w) p (inv.at prime positive).held) rows)
 
       -- after the step
-      module _ {r' : List ℕ} {x : Lowered} (lowered : IsLowered p m w l k high low r r' x) where
+      module _ {r' : List ℕ} {x : Lowered} (made : IsLowered p m w l k step.high step.low r r' x) where
+        lowered : IsLowered p m w l k (get_or pivots l zero_row) (get_or pivots k zero_row) r r' x
+        lowered = rw (on.high_is, on.low_is) at made
+
         pub falls : total n (values_of m w r') < total n (values_of m w r)
         falls =
             let here = inv.at prime positive in
@@ -175,17 +185,17 @@ module _ {p reciprocal n m w : ℕ} {a : List ℕ} (input : Checked p reciprocal
         going_on also = record {
           r-same = lowered.r_move.size ∙ inv.r-same;
           room = length-set pivots l x.pivot ∙ inv.room;
-          found = RowsOf.pivots-after size reducing.l_fits lowered inv.found (omega (arith, inv.room, rows_fit));
+          found = RowsOf.pivots-after size rows.l_fits lowered inv.found (omega (arith, inv.room, rows_fit));
           at = λ P some.
               let here = inv.at P some in
-              let rows = rows-held P bounds.columns here.t here.held next in
+              let held-rows = rows-held P bounds.columns here.t here.held next in
               record {
                 t = advance (zp_field p P) m w l k here.t;
-                held = step-held p P n m w bounds.columns here.held inv.found l k rows lowered;
+                held = step-held p P n m w bounds.columns here.held inv.found l k held-rows lowered;
                 onward = λ c s x. subst (λ (y : ℕ). Runs (zp_field p P) n m w y (begin (zp_field p P).ring (A some)) s) (shift c)
                     (here.onward (suc c) s (more (pair_held P bounds.columns here.t here.held next)
                     (rw (applied P bounds.columns here.t here.held next) x)));
-                also = also P some rows;
+                also = also P some held-rows;
               };
           budget = omega (arith, inv.budget, falls);
         }

@@ -1,7 +1,7 @@
 -- The rows that are not zero, and their list as it is made row by row.
 use mathlib.Core.Path.{◌≡◌, refl, sym, ap, ap₂, ◌∙◌}
 use mathlib.Core.List.{List}
-use Prim.Native.Nat.{ℕ, suc, ◌+◌, ◌*◌, ◌-◌, ◌/◌, ◌%◌, ◌^◌, ◌≤◌, ◌<◌}
+use Prim.Native.Nat.{ℕ, zero, suc, ◌+◌, ◌*◌, ◌-◌, ◌/◌, ◌%◌, ◌^◌, ◌≤◌, ◌<◌}
 use native.Mathlib.Nat as N
 use native.Mathlib.Omega.{arith}
 use lib.ListN.{length, get_or, take, drop}
@@ -48,18 +48,21 @@ module _ (m w : ℕ) (row : List ℕ) (columns : 0 < m) (places : 0 < w) (size :
   used-sign : sign (used_places row) ≡ sign (value_of m w row)
   used-sign = omega (arith, sign_le (used_places row) (value_of m w row) in_use, sign_le (value_of m w row) (used_places row) not-zero)
 
+pub sign-one : (x : ℕ) → (x ≡ 0 → ⊥) → sign x ≡ 1
+sign-one zero some = absurd (some refl)
+sign-one (suc x) some = refl
+
 -- where the loop stands: the rows before i are listed
-pub record Listing (n : ℕ) (z : ℕ → ℕ) (rows bit i : ℕ) : Type 0 where
-  pub reached : i ≤ n
+pub record Listing (z : ℕ → ℕ) (rows bit i : ℕ) : Type 0 where
   pub rows_are : rows ≡ mask_of i z
   pub bit_is : bit ≡ 2 ^ i
   pub rows_most : rows < bit
 
-pub listing_start : (n : ℕ) (z : ℕ → ℕ) → Listing n z 0 1 0
+pub listing_start : (z : ℕ → ℕ) → Listing z 0 1 0
 unfolding total
-listing_start n z = record { reached = omega arith; rows_are = refl; bit_is = refl; rows_most = omega arith }
+listing_start z = record { rows_are = refl; bit_is = refl; rows_most = omega arith }
 
-module _ {n m w : ℕ} {r : List ℕ} (asked : ListAsked n m w r) {rows bit i : ℕ} (at : Listing n (values_of m w r) rows bit i)
+module _ {n m w : ℕ} {r : List ℕ} (asked : ListAsked n m w r) {rows bit i : ℕ} (at : Listing (values_of m w r) rows bit i)
     (more : i < n) where
   open asked.bounds use {rows_most, columns, places}
 
@@ -82,19 +85,15 @@ module _ {n m w : ℕ} {r : List ℕ} (asked : ListAsked n m w r) {rows bit i : 
         let most : sign used * bit ≤ 1 * bit = N.mul-le-mul (sign-most used) own in
         omega (arith, x-is)
 
-    pub listing-on : Listing n (values_of m w r) (rows + x) (bit * 2) (i + 1)
+    pub listing-on : Listing (values_of m w r) (rows + x) (bit * 2) (i + 1)
     listing-on =
         let next : i + 1 ≡ suc i = omega arith in
         record {
-          reached = omega arith;
           rows_are = rw next
               (ap₂ ◌+◌ at.rows_are (x-is ∙ ap₂ ◌*◌ sign-is at.bit_is) ∙ sym (total-suc i (λ j. sign (values_of m w r j) * 2 ^ j)));
           bit_is = rw next (omega (arith, at.bit_is, N.pow-succ' 2 i));
           rows_most = omega (arith, at.rows_most, entry-few);
         }
-
-pub listing-end : {n rows bit i : ℕ} {z : ℕ → ℕ} → Listing n z rows bit i → n ≤ i → rows ≡ mask_of n z
-listing-end {n} {i = i} at all = let e : i ≡ n = omega (arith, at.reached) in rw e at at.rows_are
 
 -- the list of the rows of the result that are not zero is what the reduction promises
 pub listed : {p n m w rank count rows : ℕ} {a r u v : List ℕ} → 0 < m → IsReduction p n m w a r u v rank count

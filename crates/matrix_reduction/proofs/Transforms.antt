@@ -6,7 +6,7 @@ use Prim.Native.Nat.{ℕ, suc, ◌+◌, ◌-◌, ◌*◌, ◌≤◌, ◌<◌}
 use native.Mathlib.Nat as N
 use native.Mathlib.Omega.{arith}
 use native.Mathlib.Decide.{ℕ_discrete}
-use lib.ListN.{length, get_or, set}
+use lib.ListN.{length, get_or, set, take}
 use lib.Seq.{get_or-set_same, get_or-set_other}
 use Rattle.theory_algebra.specs.Field.{Field}
 use Rattle.theory_algebra.specs.Prime.{Prime}
@@ -19,7 +19,6 @@ use Rattle.theory_lists.specs.Total.{total}
 use Rattle.theory_lists.proofs.Total.{total-same, total-change}
 use Rattle.theory_reduction.specs.Pivot.{value, values, height}
 use Rattle.theory_reduction.specs.Pair.{NoPair, StepRows}
-use Rattle.theory_reduction.specs.Rank.{chosen}
 use Rattle.theory_reduction.specs.Step.{Carried, advance}
 use Rattle.theory_reduction.specs.Narrow.{pivot_degree, spent_since, Narrow}
 use Rattle.theory_reduction.proofs.Degrees.{narrow_start}
@@ -32,14 +31,14 @@ use Rattle.matrix_buffers.specs.Bounds.{Checked}
 use Rattle.matrix_buffers.proofs.Bounds.{cell-few}
 use Rattle.matrix_buffers.proofs.Diagonal.{held-identity}
 use Rattle.matrix_rows.specs.Asked.{Short}
-use Rattle.matrix_pivots.specs.NextPair.{IsNextOf}
-use Rattle.matrix_pivots.specs.Pivot.{values_of, degrees_of, zero_row, index_at, degree_at, Pivots, AllPivots, least_degree}
+use Rattle.matrix_pivots.specs.Pivot.{values_of, degrees_of, zero_row, degree_at, Pivots, AllPivots, least_degree, nonzero_rows}
 use Rattle.matrix_pivots.specs.declared.pivot.Pivot.{Pivot}
-use Rattle.matrix_pivots.specs.declared.next_pair.Next.TheVariants.{Rows}
-use Rattle.matrix_pivots.proofs.LeastDegree.{least-below}
+use Rattle.matrix_pivots.proofs.Front.{least-below}
 use Rattle.matrix_steps.specs.Asked.{FollowAsked}
 use Rattle.matrix_steps.specs.Subtraction.{IsLowered}
 use Rattle.matrix_steps.specs.declared.Lowered.{Lowered}
+use Rattle.matrix_steps.specs.declared.Step.{Step}
+use Rattle.matrix_steps.proofs.Next.{StepOf}
 use Rattle.matrix_steps.proofs.LinesAsked as LinesAsked
 use Rattle.matrix_steps.proofs.Value.{value-held}
 use Rattle.matrix_steps.proofs.Moving.{height-is, move-narrow, move-holding}
@@ -48,7 +47,7 @@ use Rattle.matrix_steps.proofs.Short.{u_short, v_short, spent_fits}
 use Rattle.matrix_reduction.specs.Asked.{StartAsked}
 use Rattle.matrix_reduction.specs.Advanced.{AdvanceAsked, Advanced}
 use Rattle.matrix_reduction.proofs.Loop.{Onward, Going, positive, first, going_start, size, going-last, rank_is}
-use Rattle.matrix_reduction.proofs.Loop.{reducing, rows_fit, lower-asked, falls, going_on}
+use Rattle.matrix_reduction.proofs.Loop.{rows_fit, lower-asked, falls, going_on}
 
 -- u and v hold U and V of the state t, within the bounds on the degrees
 pub record Transforms (p n m w : ℕ) (a u v : List ℕ) (P : Prime p) (some : 0 < p) (t : Carried (Zp p)) : Type 0 where
@@ -57,14 +56,14 @@ pub record Transforms (p n m w : ℕ) (a u v : List ℕ) (P : Prime p) (some : 0
   pub narrow : Narrow (zp_field p P) n m w (matrix_of (by_rows n m w) p some a) t
 
 -- what the step on U and V asks, once that on the matrix is made
-pub follow-asked : {p reciprocal n m w l k reach : ℕ} {high low : Pivot} {r u v r' : List ℕ} {x : Lowered}
-    → AdvanceAsked p reciprocal n m w l k high low reach r u v → IsLowered p m w l k high low r r' x
-    → FollowAsked p reciprocal n w l k x.multiple.exponent x.multiple.factor.0 x.multiple.negated.0
+pub follow-asked : {p n m w l k reach : ℕ} {high low : Pivot} {r u v r' : List ℕ} {x : Lowered}
+    → AdvanceAsked p n m w l k high low reach r u v → IsLowered p m w l k high low r r' x
+    → FollowAsked p n w l k x.multiple.exponent x.multiple.factor.0 x.multiple.negated.0
     reach (w + 1 - high.degree.0) u v
-follow-asked asked lowered = LinesAsked.follow-asked asked.lower.plan.ready asked.move lowered.factor
+follow-asked asked lowered = LinesAsked.follow-asked asked.move lowered.factor
 
 -- after `count` steps on the matrix in a
-module _ {p reciprocal n m w : ℕ} {a : List ℕ} (input : Checked p reciprocal n m w a) (P : Prime p) (some : 0 < p)
+module _ {p n m w : ℕ} {a : List ℕ} (input : Checked p n m w a) (P : Prime p) (some : 0 < p)
     {r u v : List ℕ} {count : ℕ} (at : Onward p P some n m w a r count (Transforms p n m w a u v P some)) where
   open input.bounds use {columns, places}
 
@@ -137,11 +136,11 @@ pub record Running (p n m w : ℕ) (a u₀ v₀ r u v : List ℕ) (pivots : List
   pub least-is : (i : ℕ) → i < n → least ≤ degrees_of m w a i
   pub above : (i : ℕ) → i < n → least ≤ degree_at pivots i - 1 + spent
 
-module _ {p reciprocal n m w : ℕ} {a u₀ v₀ : List ℕ} (asked : StartAsked p reciprocal n m w a u₀ v₀) where
+module _ {p n m w : ℕ} {a u₀ v₀ : List ℕ} (asked : StartAsked p n m w a u₀ v₀) where
   open asked use {input}
   open input use {prime, bounds}
 
-  pub running-start : {pivots : List Pivot} {least : ℕ} → AllPivots n m (values_of m w a) pivots → least ≡ least_degree w n pivots
+  pub running-start : {pivots : List Pivot} {least : ℕ} → AllPivots n m (values_of m w a) pivots → least ≡ least_degree w (take n pivots)
       → Running p n m w a u₀ v₀ a u₀ v₀ pivots least 0 0
   running-start {pivots} {least} all is = record {
     u_same = refl;
@@ -152,10 +151,13 @@ module _ {p reciprocal n m w : ℕ} {a u₀ v₀ : List ℕ} (asked : StartAsked
       narrow = narrow_start (zp_field p P) n m w (matrix_of (by_rows n m w) p some a);
     }) all;
     lost = omega (arith, total-same n (λ i. degree_at pivots i - 1) (degrees_of m w a) degrees);
-    least-is = λ i l. omega (arith, is, least-below w n pivots i l, degrees i l);
-    above = λ i l. omega (arith, is, least-below w n pivots i l);
+    least-is = λ i l. omega (arith, is, least-below w n pivots fits i l, degrees i l);
+    above = λ i l. omega (arith, is, least-below w n pivots fits i l);
   }
     where
+      fits : n ≤ length pivots
+      fits = omega (arith, all.size, bounds.rows_most)
+
       degrees : (i : ℕ) → i < n → degree_at pivots i - 1 ≡ degrees_of m w a i
       degrees i l = ap (λ (h : ℕ). h - 1) (all.pivots_are.row i l).degree_is
 
@@ -163,7 +165,7 @@ module _ {p reciprocal n m w : ℕ} {a u₀ v₀ : List ℕ} (asked : StartAsked
       (inv : Running p n m w a u₀ v₀ r u v pivots least count spent) where
     open inv use {going}
 
-    pub running-stop : {rank : ℕ} → NoPair n m (values_of m w r) → rank ≡ chosen n (index_at pivots) → IsReduction p n m w a r u v rank count
+    pub running-stop : {rank : ℕ} → NoPair n m (values_of m w r) → rank ≡ nonzero_rows (take n pivots) → IsReduction p n m w a r u v rank count
     running-stop stuck is = record {
       by = λ P some. record {
         t = (going.at P some).t;
@@ -173,32 +175,40 @@ module _ {p reciprocal n m w : ℕ} {a u₀ v₀ : List ℕ} (asked : StartAsked
       };
     }
 
-    -- a turn of the loop: rows l and k are to be reduced
-    module _ {l k : ℕ} (next : IsNextOf n m (values_of m w r) (Rows l k)) where
+    -- a turn of the loop
+    module _ {step : Step} (on : StepOf n m (values_of m w r) pivots step) where
+      open on use {rows}
+
+      abbrev l : ℕ
+      l = step.pair.l
+
+      abbrev k : ℕ
+      k = step.pair.k
+
       abbrev high : Pivot
       high = get_or pivots l zero_row
 
       abbrev low : Pivot
       low = get_or pivots k zero_row
 
-      rows : StepRows n m (values_of m w r) l k
-      rows = reducing input going next
-
       -- what row k of U has at most fits
-      pub reach-fits : (least ≤ low.degree.0 + spent) × (low.degree.0 ≤ high.degree.0)
-          × (high.degree.0 + spent ≤ n * w) × (n * w ≤ 512)
-      reach-fits = (
+      reach : (least ≤ low.degree.0 + spent) × (low.degree.0 ≤ high.degree.0) × (high.degree.0 + spent ≤ n * w) × (n * w ≤ 512)
+      reach = (
         omega (arith, inv.above k rows.k_fits),
-        (lower-asked input going next).plan.order,
+        (rw (on.high_is, on.low_is) at (lower-asked input going on)).plan.order,
         row_room input prime (positive input) (going.at prime (positive input)) going.found spent inv.lost l rows.l_fits,
         cell-few bounds,
       )
 
-      pub advance-asked : AdvanceAsked p reciprocal n m w l k high low (low.degree.0 + spent - least) r u v
+      pub reach-fits : (least ≤ step.low.degree.0 + spent) × (step.low.degree.0 ≤ step.high.degree.0)
+          × (step.high.degree.0 + spent ≤ n * w) × (n * w ≤ 512)
+      reach-fits = rw (on.high_is, on.low_is) reach
+
+      pub advance-asked : AdvanceAsked p n m w l k step.high step.low (step.low.degree.0 + spent - least) r u v
       advance-asked =
           let at = going.at prime (positive input) in
-          let lower = lower-asked input going next in
-          record {
+          let lower = rw (on.high_is, on.low_is) at (lower-asked input going on) in
+          rw (on.high_is, on.low_is) (record {
             lower = lower;
             move = record {
               u_size = at.also.U.size;
@@ -209,27 +219,33 @@ module _ {p reciprocal n m w : ℕ} {a u₀ v₀ : List ℕ} (asked : StartAsked
               k_fits = rows.k_fits;
               differ = rows.apart;
               u_short = row-short input prime (positive input) at going.found spent inv.lost k _ least rows.k_fits
-                  lower.plan.k_pivot.leading.height inv.least-is (omega (arith, reach-fits));
+                  lower.plan.k_pivot.leading.height inv.least-is (omega (arith, reach));
               v_short = column-short input prime (positive input) at going.found l rows.l_fits;
-              u_room = omega (arith, reach-fits);
-              v_room = omega (arith, reach-fits, lower.plan.l_pivot.leading.height_most, lower.plan.k_pivot.leading.height);
+              u_room = omega (arith, reach);
+              v_room = omega (arith, reach, lower.plan.l_pivot.leading.height_most, lower.plan.k_pivot.leading.height);
             };
-          }
+          })
 
       -- after the step
-      module _ {r' u' v' : List ℕ} {new : Pivot} (d : Advanced p n m w l k high low r u v r' u' v' new) where
+      module _ {r' u' v' : List ℕ} {new : Pivot} (made : Advanced p n m w l k step.high step.low r u v r' u' v' new) where
+        d : Advanced p n m w l k high low r u v r' u' v' new
+        d = rw (on.high_is, on.low_is) at made
+
         -- the degree of row l has not grown
-        pub lower : new.degree.0 ≤ high.degree.0
-        lower = no-higher (size input going) rows.l_fits d.lowered (lower-asked input going next)
+        pub lower : new.degree.0 ≤ step.high.degree.0
+        lower = no-higher (size input going) rows.l_fits made.lowered (lower-asked input going on)
 
         pub running-falls : total n (values_of m w r') < total n (values_of m w r)
-        running-falls = falls input going next d.lowered
+        running-falls = falls input going on made.lowered
 
         abbrev pivots' : List Pivot
         pivots' = set pivots l new
 
         here : degree_at pivots' l ≡ new.degree.0
-        here = ap (λ (x : Pivot). x.degree.0) (get_or-set_same pivots l new zero_row (omega (arith, going.room, rows_fit input going next)))
+        here = ap (λ (x : Pivot). x.degree.0) (get_or-set_same pivots l new zero_row (omega (arith, going.room, rows_fit input going on)))
+
+        high-degree : step.high.degree.0 ≡ high.degree.0
+        high-degree = ap (λ (x : Pivot). x.degree.0) on.high_is
 
         others : (i : ℕ) → i ≢ l → degree_at pivots' i ≡ degree_at pivots i
         others i ne = ap (λ (x : Pivot). x.degree.0) (get_or-set_other pivots l i new zero_row ne)
@@ -238,17 +254,17 @@ module _ {p reciprocal n m w : ℕ} {a u₀ v₀ : List ℕ} (asked : StartAsked
         change = rw here at (total-change n l (λ i. degree_at pivots' i - 1) (λ i. degree_at pivots i - 1) rows.l_fits
             (λ i li ne. ap (λ (h : ℕ). h - 1) (others i ne)))
 
-        pub running-on : {before after : ℕ} → before ≡ high.degree.0 - 1 → after ≡ new.degree.0 - 1
+        pub running-on : {before after : ℕ} → before ≡ step.high.degree.0 - 1 → after ≡ new.degree.0 - 1
             → Running p n m w a u₀ v₀ r' u' v' pivots' least (count + 1) (spent + (before - after))
         running-on before-is after_is = record {
           u_same = d.followed.u_move.size ∙ inv.u_same;
           v-same = d.followed.v_move.size ∙ inv.v-same;
-          going = going_on input going next d.lowered
+          going = going_on input going on made.lowered
               (λ P some reducing. transforms-on input P some (going.at P some) going.found reducing d);
-          lost = omega (arith, inv.lost, change, lower, before-is, after_is);
+          lost = omega (arith, inv.lost, change, lower, high-degree, before-is, after_is);
           least-is = inv.least-is;
           above = λ i li. elim (ℕ_discrete i l) [
-            | yes e ↦ rw e (omega (arith, inv.above l rows.l_fits, here, lower, before-is, after_is))
+            | yes e ↦ rw e (omega (arith, inv.above l rows.l_fits, here, lower, high-degree, before-is, after_is))
             | no ne ↦ omega (arith, inv.above i li, others i ne)
           ];
         }

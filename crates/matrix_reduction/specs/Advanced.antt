@@ -6,8 +6,8 @@ use Rattle.matrix_steps.specs.Asked.{LowerAsked, MoveAsked}
 use Rattle.matrix_steps.specs.Subtraction.{IsLowered, Followed}
 
 -- rows l and k with their pivots, and U and V, of which a cell of row k of U has no term from `reach` on
-pub record AdvanceAsked (p reciprocal n m w l k : ℕ) (high low : Pivot) (reach : ℕ) (r u v : List ℕ) : Type 0 where
-  pub lower : LowerAsked p reciprocal m w l k high low r
+pub record AdvanceAsked (p n m w l k : ℕ) (high low : Pivot) (reach : ℕ) (r u v : List ℕ) : Type 0 where
+  pub lower : LowerAsked p m w l k high low r
   pub move : MoveAsked p n w l k (high.degree.0 - low.degree.0) reach (w + 1 - high.degree.0) u v
 
 -- the subtraction on R, U and V, and the pivot of row l anew

@@ -1,8 +1,9 @@
 // The step of the reduction: R, U and V, and the pivot of the row that changed.
 ghost use Rattle.matrix_reduction.specs.Advanced.{AdvanceAsked, Advanced};
 
+use matrix_buffers::Shape;
 use matrix_pivots::Pivot;
-use matrix_steps::Ranges;
+use matrix_steps::{Ranges, Step, follow, lower};
 use poly::Modulus;
 
 // One step on rows l and k, by their pivots; the pivot of row l anew is returned. The degrees tell which places of U and V can be other
@@ -11,26 +12,19 @@ pub(crate) fn advance(
     r: &mut [u16],
     u: &mut [u16],
     v: &mut [u16],
-    l: usize,
-    k: usize,
-    high: Pivot,
-    low: Pivot,
+    shape: Shape,
+    step: Step,
     reach: usize,
-    n: usize,
-    m: usize,
-    w: usize,
     md: Modulus,
 ) -> Pivot
-    requires { AdvanceAsked md.p md.reciprocal n m w l k high low reach r.old u.old v.old }
-    ensures { Advanced md.p n m w l k high low r.old u.old v.old r.new u.new v.new result }
+    requires { AdvanceAsked md.p shape.n shape.m shape.w step.pair.l step.pair.k step.high step.low reach r.old u.old v.old }
+    ensures { Advanced md.p shape.n shape.m shape.w step.pair.l step.pair.k step.high step.low r.old u.old v.old r.new u.new v.new result }
 {
-    let x = matrix_steps::lower(r, l, k, high, low, m, w, md);
-    let until = high.degree;
+    let x = lower(r, shape, step, md);
     let top = Ranges {
         u: reach,
-        v: w + 1 - until.places(),
+        v: shape.w + 1 - step.high.degree.places(),
     };
-    let multiple = x.multiple;
-    matrix_steps::follow(u, v, l, k, multiple, top, n, w, md);
+    follow(u, v, shape, step.pair, x.multiple, top, md);
     x.pivot
 }

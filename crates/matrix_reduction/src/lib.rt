@@ -4,7 +4,9 @@
 ghost use Rattle.matrix_promises.specs.Reduced.{IsReduction};
 ghost use Rattle.matrix_reduction.specs.Asked.{StartAsked};
 
-use matrix_pivots::{Next, pivot};
+use matrix_buffers::Shape;
+use matrix_pivots::pivot;
+use matrix_steps::next_step;
 use poly::Modulus;
 
 mod advance;
@@ -16,7 +18,7 @@ pub use single::once;
 pub use without_transforms::run_alone;
 
 // How many rows are not zero, and how many steps led there.
-#[derive(Clone, Copy)]
+#[derive(Clone, Copy, Debug, PartialEq, Eq)]
 pub struct Reached {
     pub rank: usize,
     pub count: u64,
@@ -24,37 +26,24 @@ pub struct Reached {
 
 // The whole reduction of the matrix in r: "this step repeated until none applies". The pivots of all rows are kept; a step finds that of
 // its row l anew. `spent` is what the pivot degrees have lost together since the start: no cell of row k of U has a degree above that of
-// row k and `spent`, less the least pivot degree of the input.
-pub fn run(
-    r: &mut [u16],
-    u: &mut [u16],
-    v: &mut [u16],
-    n: usize,
-    m: usize,
-    w: usize,
-    md: Modulus,
-) -> Reached
-    requires { StartAsked md.p md.reciprocal n m w r.old u.old v.old }
-    ensures { IsReduction md.p n m w r.old r.new u.new v.new result.rank result.count }
+// row k and `spent`, less the least pivot degree of the input. R, U and V are three lent slices here and wherever they go together: a
+// struct of them would ask one more clause for each in every contract, that its field still lends what it lent.
+pub fn run(r: &mut [u16], u: &mut [u16], v: &mut [u16], shape: Shape, md: Modulus) -> Reached
+    requires { StartAsked md.p shape.n shape.m shape.w r.old u.old v.old }
+    ensures { IsReduction md.p shape.n shape.m shape.w r.old r.new u.new v.new result.rank result.count }
 {
-    let mut pivots = pivot::all(r, n, m, w);
-    let least = pivot::least(pivots, n, w);
+    let n = shape.n;
+    let mut pivots = pivot::all(r, shape);
+    let least = pivot::least(&pivots[..n], shape.w);
     let mut count: u64 = 0;
     let mut spent: usize = 0;
-    loop {
-        let Next::Rows { l, k } = matrix_pivots::next_rows(pivots, n) else {
-            let rank = pivot::rank(pivots, n);
-            return Reached { rank, count };
-        };
-        let high = pivots[l];
-        let low = pivots[k];
-        let from = low.degree;
-        let reach = from.places() + spent - least;
-        let new = advance::advance(r, u, v, l, k, high, low, reach, n, m, w, md);
-        let before = high.degree;
-        let after = new.degree;
-        spent += before.or_zero() - after.or_zero();
-        pivots[l] = new;
+    while let Some(step) = next_step(&pivots[..n]) {
+        let reach = step.low.degree.places() + spent - least;
+        let new = advance::advance(r, u, v, shape, step, reach, md);
+        spent += step.high.degree.or_zero() - new.degree.or_zero();
+        pivots[step.pair.l] = new;
         count += 1;
     }
+    let rank = pivot::rank(&pivots[..n]);
+    Reached { rank, count }
 }

@@ -4,6 +4,7 @@ ghost use Rattle.matrix_promises.specs.RowList.{mask_of};
 ghost use Rattle.matrix_pivots.specs.Pivot.{values_of};
 ghost use Rattle.matrix_reduction.specs.NonzeroRows.{ListAsked, bit_where};
 
+use matrix_buffers::Shape;
 use poly::polynomial;
 
 // The bit, where a row has a place in use.
@@ -14,20 +15,18 @@ fn bit_if_used(used: usize, bit: usize) -> usize
 }
 
 // Which rows of r are not zero: bit i - 1 stands for row i.
-pub fn list(r: &[u16], n: usize, m: usize, w: usize) -> usize
-    requires { ListAsked n m w r.now }
-    ensures { result ≡ mask_of n (values_of m w r.now) }
+pub fn list(r: &[u16], shape: Shape) -> usize
+    requires { ListAsked shape.n shape.m shape.w r.now }
+    ensures { result ≡ mask_of shape.n (values_of shape.m shape.w r.now) }
 {
-    let s = m * w;
+    let s = shape.row();
     let mut rows = 0;
     let mut bit = 1;
-    let mut i = 0;
-    while i < n {
+    for i in 0..shape.n {
         let at = i * s;
         let end = at + s;
         rows += bit_if_used(polynomial::used(&r[at..end]), bit);
         bit *= 2;
-        i += 1;
     }
     rows
 }

@@ -3,24 +3,25 @@ ghost use Rattle.matrix_buffers.specs.Bounds.{Checked};
 ghost use Rattle.matrix_promises.specs.Reduced.{IsReducedAlone};
 
 use crate::Reached;
-use matrix_pivots::{Next, pivot};
+use matrix_buffers::Shape;
+use matrix_pivots::pivot;
+use matrix_steps::{lower, next_step};
 use poly::Modulus;
 
-// The whole reduction of the matrix in r, by the same steps as with U and V.
-pub fn run_alone(r: &mut [u16], n: usize, m: usize, w: usize, md: Modulus) -> Reached
-    requires { Checked md.p md.reciprocal n m w r.old }
-    ensures { IsReducedAlone md.p n m w r.old r.new result.rank result.count }
+// The whole reduction of the matrix in r, by the same steps as with U and V. A loop for both would take what follows a step as a trait
+// with its laws, to spare the four lines of this one.
+pub fn run_alone(r: &mut [u16], shape: Shape, md: Modulus) -> Reached
+    requires { Checked md.p shape.n shape.m shape.w r.old }
+    ensures { IsReducedAlone md.p shape.n shape.m shape.w r.old r.new result.rank result.count }
 {
-    let mut pivots = pivot::all(r, n, m, w);
+    let n = shape.n;
+    let mut pivots = pivot::all(r, shape);
     let mut count: u64 = 0;
-    loop {
-        let Next::Rows { l, k } = matrix_pivots::next_rows(pivots, n) else {
-            let rank = pivot::rank(pivots, n);
-            return Reached { rank, count };
-        };
-        let x = matrix_steps::lower(r, l, k, pivots[l], pivots[k], m, w, md);
-        let new = x.pivot;
-        pivots[l] = new;
+    while let Some(step) = next_step(&pivots[..n]) {
+        let new = lower(r, shape, step, md).pivot;
+        pivots[step.pair.l] = new;
         count += 1;
     }
+    let rank = pivot::rank(&pivots[..n]);
+    Reached { rank, count }
 }

@@ -1,11 +1,12 @@
 -- Where a promise is no equation, any two answers that satisfy it are equal all the same. Modulus and residue are read as their numbers.
-use mathlib.Core.Path.{◌≡◌, sym, ap, ap₂, ◌∙◌}
+use mathlib.Core.Path.{◌≡◌, sym, ap, subst₂, ◌∙◌}
 use mathlib.Core.Bool.{Bool, true}
 use mathlib.Core.Logic.{◌↔◌}
 use mathlib.Core.List.{List}
 use Prim.Native.Nat.{ℕ, ◌*◌, ◌/◌, ◌%◌, ◌≤◌}
 use native.Mathlib.Nat.{mul-one, mul_comm, mul_left_comm, mod-eq_of_lt}
 use lib.ListN.{length}
+use Rattle.std.proofs.Props.{props}
 use Rattle.theory_algebra.specs.Prime.{Prime}
 use Rattle.theory_algebra.proofs.Flag.{flag-unique}
 use Rattle.theory_algebra.proofs.Residue.{mul_mod_right}
@@ -27,14 +28,20 @@ equal-unique a b = flag-unique
 pub used-unique : (a : List ℕ) (r s : ℕ) → (r ≡ used_places a) × (r ≤ length a) → (s ≡ used_places a) × (s ≤ length a) → r ≡ s
 used-unique a r s f g = f.0 ∙ sym g.0
 
--- the prime determines the reciprocal
-pub modulus-unique : (p : ℕ) (md md' : Modulus) → (md.p ≡ p) × Ready md.p md.reciprocal
-    → (md'.p ≡ p) × Ready md'.p md'.reciprocal
-    → md ≡ md'
+-- the prime determines the reciprocal, and that it does has one proof
+pub modulus-unique : (p : ℕ) (md md' : Modulus) → md.p ≡ p → md'.p ≡ p → md ≡ md'
 modulus-unique p md md' f g =
-    let same : md.p ≡ md'.p = f.0 ∙ sym g.0 in
-    ap₂ (λ (p reciprocal : ℕ). record { p = p; reciprocal = reciprocal }) same
-    (f.1.reciprocal_is ∙ ap (λ (q : ℕ). 4294967296 / q) same ∙ sym g.1.reciprocal_is)
+    subst₂ (λ (q r : ℕ). (h : Ready q r) → md ≡ record { p = q; reciprocal = r; ready = h }) same other
+    (λ h. ap (λ (h : Ready md.p md.reciprocal). record { p = md.p; reciprocal = md.reciprocal; ready = h }) (one md.ready h)) md'.ready
+  where
+    one : IsProp (Ready md.p md.reciprocal)
+    one = hlevel props
+
+    same : md.p ≡ md'.p
+    same = f ∙ sym g
+
+    other : md.reciprocal ≡ md'.reciprocal
+    other = md.ready.reciprocal_is ∙ ap (λ (q : ℕ). 4294967296 / q) same ∙ sym md'.ready.reciprocal_is
 
 -- r = r·(a·s) = s·(a·r) = s
 pub inverse-unique : (p a r s : ℕ) → Inverse p a r → Inverse p a s → r ≡ s

@@ -1,7 +1,6 @@
 // Arithmetic of polynomials in slices: what changes places or fills them. All places stay, zeros at either end too.
 ghost use Rattle.std.specs.Prelude.{◌≡◌, ◌*◌, ◌-◌, ◌<◌, ◌≤◌, length};
 ghost use Rattle.theory_lists.specs.Change.{imap};
-ghost use Rattle.poly.specs.residues.Modulus.{Ready};
 ghost use Rattle.poly.specs.arithmetic.Operations.{plus_times, AddAsked, plus_term, TermAsked, plus_multiple, MultipleAsked, product_at, product_of, ProductAsked, scaled_by, zeros};
 
 use crate::polynomial;
@@ -9,29 +8,28 @@ use crate::residues::{Modulus, Residue};
 
 // a plus c times b, place by place.
 fn add_scaled(a: &mut [u16], b: &[u16], c: Residue, md: Modulus)
-    requires { AddAsked md.p md.reciprocal c.0 a.old b.now }
+    requires { AddAsked md.p c.0 a.old b.now }
     ensures { a.new ≡ imap (plus_times md.p c.0 b.now) a.old }
 {
     let mut i = 0;
     while i < a.len() {
-        a[i] = Residue::held(a[i])
-            .plus_product(c, Residue::held(b[i]), md)
-            .number();
+        let x = Residue::from(a[i]).plus_product(c, Residue::from(b[i]), md);
+        a[i] = u16::from(x);
         i += 1;
     }
 }
 
 // a with c times y added at place i: one term of a multiple, where what is added stands in the same buffer and goes by value.
 pub fn add_at(a: &mut [u16], i: usize, y: Residue, c: Residue, md: Modulus)
-    requires { TermAsked md.p md.reciprocal c.0 y.0 i a.old }
+    requires { TermAsked md.p c.0 y.0 i a.old }
     ensures { a.new ≡ plus_term md.p c.0 y.0 i a.old }
 {
-    a[i] = Residue::held(a[i]).plus_product(c, y, md).number();
+    a[i] = u16::from(Residue::from(a[i]).plus_product(c, y, md));
 }
 
 // a plus c·x^e times b, in a's places. The terms of b up to the last that is not zero all fit, by the contract.
 pub fn add_multiple(a: &mut [u16], b: &[u16], c: Residue, e: usize, md: Modulus)
-    requires { MultipleAsked md.p md.reciprocal c.0 e a.old b.now }
+    requires { MultipleAsked md.p c.0 e a.old b.now }
     ensures { a.new ≡ plus_multiple md.p c.0 e b.now a.old }
 {
     let n = polynomial::used(b);
@@ -74,24 +72,23 @@ fn whole_product(x: u16, y: u16) -> u64
 
 // a times b, reduced once for each place of out.
 pub fn product(a: &[u16], b: &[u16], out: &mut [u16], md: Modulus)
-    requires { ProductAsked md.p md.reciprocal a.now b.now out.old }
+    requires { ProductAsked md.p a.now b.now out.old }
     ensures { out.new ≡ product_of md.p a.now b.now out.old }
 {
     let mut k = 0;
     while k < out.len() {
-        out[k] = Residue::of_sum(sum_at(a, b, k), md).number();
+        out[k] = u16::from(Residue::of_sum(sum_at(a, b, k), md));
         k += 1;
     }
 }
 
 // c times a, in place.
 pub fn scale(a: &mut [u16], c: Residue, md: Modulus)
-    requires { Ready md.p md.reciprocal }
     ensures { a.new ≡ scaled_by md.p c.0 a.old }
 {
     let mut i = 0;
     while i < a.len() {
-        a[i] = c.product(Residue::held(a[i]), md).number();
+        a[i] = u16::from(c.product(Residue::from(a[i]), md));
         i += 1;
     }
 }
@@ -110,7 +107,7 @@ pub fn copy(from: &[u16], to: &mut [u16])
 pub fn clear(a: &mut [u16])
     ensures { a.new ≡ zeros a.old }
 {
-    let zero = Residue::ZERO.number();
+    let zero = u16::from(Residue::ZERO);
     let mut i = 0;
     while i < a.len() {
         a[i] = zero;

@@ -5,7 +5,7 @@ ghost use Rattle.poly.specs.Polynomial.{degree_of, used_places, leading_of, Same
 use crate::residues::Residue;
 
 // The degree of a polynomial, -1 for zero.
-#[derive(Clone, Copy)]
+#[derive(Clone, Copy, Debug, PartialEq, Eq)]
 pub struct Degree(pub i64);
 
 // Whether all places are zero. No early exit, so that eight places become one comparison of vectors.
@@ -40,7 +40,7 @@ fn skip(a: &[u16]) -> usize
 pub fn used(a: &[u16]) -> usize
     ensures { (result ≡ used_places a.now) × (result ≤ length a.now) }
 {
-    let zero = Residue::ZERO.number();
+    let zero = u16::from(Residue::ZERO);
     let mut n = skip(a);
     while 0 < n {
         if a[n - 1] != zero {
@@ -71,7 +71,7 @@ pub fn leading(a: &[u16]) -> Residue
     if n == 0 {
         return Residue::ZERO;
     }
-    Residue::held(a[n - 1])
+    Residue::from(a[n - 1])
 }
 
 // Whether the two are the same polynomial, whatever zeros stand behind.

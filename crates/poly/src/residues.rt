@@ -5,14 +5,15 @@ ghost use Rattle.poly.specs.residues.Modulus.{Ready, Residues₂, Inverse};
 ghost use Rattle.theory_algebra.specs.Modulus.{Accepted, InRange};
 
 // A number below the modulus.
-#[derive(Clone, Copy)]
+#[derive(Clone, Copy, Debug, PartialEq, Eq)]
 pub struct Residue(pub(crate) u16);
 
 // A modulus with the reciprocal by which remainders are taken: two products in place of a division.
-#[derive(Clone, Copy)]
+#[derive(Clone, Copy, Debug, PartialEq, Eq)]
 pub struct Modulus {
     pub p: u32,
     pub reciprocal: u32,
+    pub ghost ready: { Ready p reciprocal },
 }
 
 impl Modulus {
@@ -26,10 +27,10 @@ impl Modulus {
         is_prime(p)
     }
 
-    // The one division that a modulus costs.
+    // The one division that a modulus costs. That the result is ready is in its type.
     pub fn of(p: u32) -> Modulus
         requires { InRange p }
-        ensures { (result.p ≡ p) × Ready result.p result.reciprocal }
+        ensures { result.p ≡ p }
     {
         Modulus {
             p,
@@ -39,7 +40,6 @@ impl Modulus {
 
     // The remainder of x (Barrett): x * reciprocal / 2^32 is the quotient or one less.
     fn remainder(self, x: u32) -> u16
-        requires { Ready self.p self.reciprocal }
         ensures { result ≡ x % self.p }
     {
         let q = ((x as u64) * (self.reciprocal as u64) / 4294967296) as u32;
@@ -52,6 +52,24 @@ impl Modulus {
     }
 }
 
+// The residue of a coefficient that stands in a buffer: "Coefficients are 16-bit numbers below p."
+impl From<u16> for Residue {
+    ghost from_gives = { λ number residue. residue.0 ≡ number };
+
+    fn from(number: u16) -> Residue {
+        Residue(number)
+    }
+}
+
+// The number by which it is written into a buffer.
+impl From<Residue> for u16 {
+    ghost from_gives = { λ residue number. number ≡ residue.0 };
+
+    fn from(residue: Residue) -> u16 {
+        residue.0
+    }
+}
+
 impl Residue {
     pub const ZERO: Residue = Residue(0);
 
@@ -59,24 +77,8 @@ impl Residue {
 
     pub const LARGEST_MODULUS: u32 = 65521;
 
-    // The residue of a coefficient that stands in a buffer: "Coefficients are 16-bit numbers below p."
-    pub fn held(number: u16) -> Residue
-        ensures { result.0 ≡ number }
-    {
-        Residue(number)
-    }
-
-    // The number by which it is written into a buffer.
-    pub fn number(self) -> u16
-        ensures { result ≡ self.0 }
-    {
-        let Residue(x) = self;
-        x
-    }
-
     // The residue of any number.
     pub fn of(x: u32, md: Modulus) -> Residue
-        requires { Ready md.p md.reciprocal }
         ensures { result.0 ≡ x % md.p }
     {
         Residue(md.remainder(x))
@@ -84,15 +86,13 @@ impl Residue {
 
     // The residue of a sum of products that may pass 32 bits, by a division.
     pub(crate) fn of_sum(x: u64, md: Modulus) -> Residue
-        requires { Ready md.p md.reciprocal }
         ensures { result.0 ≡ x % md.p }
     {
         Residue((x % (md.p as u64)) as u16)
     }
 
     pub fn sum(self, b: Residue, md: Modulus) -> Residue
-        requires ready { Ready md.p md.reciprocal }
-        requires residues { Residues₂ md.p self.0 b.0 }
+        requires { Residues₂ md.p self.0 b.0 }
         ensures { result.0 ≡ (self.0 + b.0) % md.p }
     {
         let s = (self.0 as u32) + (b.0 as u32);
@@ -104,8 +104,7 @@ impl Residue {
     }
 
     pub fn difference(self, b: Residue, md: Modulus) -> Residue
-        requires ready { Ready md.p md.reciprocal }
-        requires residues { Residues₂ md.p self.0 b.0 }
+        requires { Residues₂ md.p self.0 b.0 }
         ensures { result.0 ≡ (self.0 + (md.p - b.0)) % md.p }
     {
         if b.0 <= self.0 {
@@ -116,7 +115,6 @@ impl Residue {
     }
 
     pub fn product(self, b: Residue, md: Modulus) -> Residue
-        requires { Ready md.p md.reciprocal }
         ensures { result.0 ≡ self.0 * b.0 % md.p }
     {
         Residue(md.remainder((self.0 as u32) * (b.0 as u32)))
@@ -124,8 +122,7 @@ impl Residue {
 
     // The rule of one place: c times y is added, and the sum fits 32 bits.
     pub(crate) fn plus_product(self, c: Residue, y: Residue, md: Modulus) -> Residue
-        requires ready { Ready md.p md.reciprocal }
-        requires residues { Residues₂ md.p c.0 y.0 }
+        requires { Residues₂ md.p c.0 y.0 }
         ensures { result.0 ≡ (self.0 + c.0 * y.0) % md.p }
     {
         Residue(md.remainder((self.0 as u32) + (c.0 as u32) * (y.0 as u32)))
@@ -133,7 +130,6 @@ impl Residue {
 
     // By p = (p / a) * a + p % a: each turn goes from a to p % a by one division, and so on down to 1.
     pub fn inverse(self, md: Modulus) -> Residue
-        requires ready { Ready md.p md.reciprocal }
         requires prime { Prime md.p }
         requires self_nonzero { (0 < self.0) × (self.0 < md.p) }
         ensures { Inverse md.p self.0 result.0 }

@@ -5,8 +5,8 @@ use Rattle.matrix_pivots.specs.Pivot.{values_of}
 use Rattle.matrix_reduction.proofs.Transforms.{Running}
 use Rattle.matrix_reduction.proofs.run.Given as goal
 
-abbrev pub invariant-loop-l : goal.invariant-loop-l
-invariant-loop-l l = Running l.md.p l.n l.m l.w l.initial.r l.initial.u l.initial.v l.r l.u l.v l.pivots l.least l.count l.spent
+abbrev pub invariant-loop-step : goal.invariant-loop-step
+invariant-loop-step l = Running l.fn.md.p l.fn.shape.n l.fn.shape.m l.fn.shape.w l.initial.r l.initial.u l.initial.v l.r l.u l.v l.pivots l.least l.count l.spent
 
-abbrev pub decreases-loop-l : goal.decreases-loop-l
-decreases-loop-l l = total l.n (values_of l.m l.w l.r)
+abbrev pub decreases-loop-step : goal.decreases-loop-step
+decreases-loop-step l = total l.fn.shape.n (values_of l.fn.shape.m l.fn.shape.w l.r)

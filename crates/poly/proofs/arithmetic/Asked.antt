@@ -7,7 +7,6 @@ use native.Mathlib.Omega.{arith}
 use lib.ListN.{length}
 use Rattle.theory_lists.specs.Change.{imap}
 use Rattle.theory_lists.proofs.Change.{get_or-past, length-imap, get_or-imap}
-use Rattle.poly.specs.residues.Modulus.{Ready}
 use Rattle.theory_lists.specs.Coefficients.{Coefficients}
 use Rattle.poly.specs.arithmetic.Operations.{shifted, plus_multiple, MultipleAsked, ProductAsked, scaled_by}
 use Rattle.poly.proofs.arithmetic.Places.{product-past}
@@ -25,10 +24,9 @@ unfolding plus_multiple
 sum-coefficients p c e a b = remainders p (λ i x. x + c * shifted e b i) a
 
 -- a target with room for a whole source
-pub with-room : (p reciprocal c e : ℕ) (a b : List ℕ) → Ready p reciprocal → c < p → Coefficients p a → Coefficients p b
-    → e + length b ≤ length a → MultipleAsked p reciprocal c e a b
-with-room p reciprocal c e a b ready factor ca cb room = record {
-  ready = ready;
+pub with-room : (p c e : ℕ) (a b : List ℕ) → c < p → Coefficients p a → Coefficients p b
+    → e + length b ≤ length a → MultipleAsked p c e a b
+with-room p c e a b factor ca cb room = record {
   factor = factor;
   target = ca;
   source = cb;
@@ -36,10 +34,9 @@ with-room p reciprocal c e a b ready factor ca cb room = record {
 }
 
 -- room for every term of a product
-pub product-room : (p reciprocal : ℕ) (a b out : List ℕ) → Ready p reciprocal → length a + length b ≤ length out + 1 → length a ≤ 4294967296
-    → ProductAsked p reciprocal a b out
-product-room p reciprocal a b out ready room short = record {
-  ready = ready;
+pub product-room : (p : ℕ) (a b out : List ℕ) → length a + length b ≤ length out + 1 → length a ≤ 4294967296
+    → ProductAsked p a b out
+product-room p a b out room short = record {
   room = λ k h. ap (λ (x : ℕ). x % p) (product-past a b k (omega arith)) ∙ zero-mod p;
   short = short;
 }

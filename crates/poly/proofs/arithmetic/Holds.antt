@@ -27,11 +27,11 @@ module _ (p : ℕ) (P : Prime p) where
   K = zp_field p P
 
   -- c·x^e times b added to a, where nothing falls outside
-  pub holds-multiple : (reciprocal e : ℕ) (c : Zp p) (a b : List ℕ) (f g : ℕ → Zp p) → Holds p a f → Holds p b g
-      → MultipleAsked p reciprocal c.val e a b
+  pub holds-multiple : (e : ℕ) (c : Zp p) (a b : List ℕ) (f g : ℕ → Zp p) → Holds p a f → Holds p b g
+      → MultipleAsked p c.val e a b
       → Holds p (plus_multiple p c.val e b a) ((series K.ring).add f ((series K.ring).mul (mono K.ring c e) g))
   unfolding plus_multiple
-  holds-multiple reciprocal e c a b f g hf hg pre = record { at = λ k. at k ∙ sym (sum_number k) }
+  holds-multiple e c a b f g hf hg pre = record { at = λ k. at k ∙ sym (sum_number k) }
     where
       -- what x^e times b has at k
       source : (k : ℕ) → ((series K.ring).mul (mono K.ring c e) g k).val ≡ c.val * shifted e b k % p
@@ -80,10 +80,10 @@ module _ (p : ℕ) (P : Prime p) where
       (λ i. field-mul p P (f i) (g (k - i)) ∙ ap₂ (λ (x y : ℕ). x * y % p) (sym (hf.at i)) (sym (hg.at (k - i))))
 
   -- a times b, where nothing falls outside
-  pub holds-product : (reciprocal : ℕ) (a b out : List ℕ) (f g : ℕ → Zp p) → Holds p a f → Holds p b g → ProductAsked p reciprocal a b out
+  pub holds-product : (a b out : List ℕ) (f g : ℕ → Zp p) → Holds p a f → Holds p b g → ProductAsked p a b out
       → Holds p (product_of p a b out) ((series K.ring).mul f g)
   unfolding product_of
-  holds-product reciprocal a b out f g hf hg pre =
+  holds-product a b out f g hf hg pre =
       record { at = λ k. get_or-imap-every _ out k (pre.room k) ∙ sym (product-number a b f g hf hg k) }
 
   -- c times a

@@ -67,7 +67,7 @@ module _ (a b : List ℕ) (k : ℕ) where
   ])
 
 -- the sum over a part is the sum over the whole: below the part nothing is added, and above it b has no terms
-module _ (p reciprocal c e : ℕ) (a b : List ℕ) (pre : MultipleAsked p reciprocal c e a b) where
+module _ (p c e : ℕ) (a b : List ℕ) (pre : MultipleAsked p c e a b) where
   abbrev rule : ℕ → ℕ → ℕ
   rule i x = (x + c * shifted e b i) % p
 
@@ -134,9 +134,8 @@ module _ (p reciprocal c e : ℕ) (a b : List ℕ) (pre : MultipleAsked p recipr
     within = omega (arith, (ends-height b).within)
 
     -- what a sum asks of the part that is lent, and what is there when it comes back
-    pub part-lent : AddAsked p reciprocal c (take (e + n - e) (drop e a)) (take n b)
+    pub part-lent : AddAsked p c (take (e + n - e) (drop e a)) (take n b)
     part-lent = record {
-      ready = pre.ready;
       factor = pre.factor;
       same = rw (add-sub_cancel_left e n) (length_part e n a fits ∙ sym (length-take-le n b within));
       source = record {

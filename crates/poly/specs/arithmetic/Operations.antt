@@ -2,7 +2,6 @@
 use Rattle.std.specs.Prelude.{ℕ, suc, ◌+◌, ◌*◌, ◌-◌, ◌%◌, ◌<◌, ◌≤◌, ◌≡◌, List, Bool, true, false, length, get_or, set, leb}
 use Rattle.theory_lists.specs.Change.{imap}
 use Rattle.theory_lists.specs.Total.{total}
-use Rattle.poly.specs.residues.Modulus.{Ready}
 use Rattle.theory_lists.specs.Coefficients.{Coefficients}
 
 -- the coefficient of x^e times b at degree i
@@ -18,8 +17,7 @@ unfoldable pub plus_multiple : ℕ → ℕ → ℕ → List ℕ → List ℕ →
 plus_multiple p c e b a = imap (λ i x. (x + c * shifted e b i) % p) a
 
 -- what the sum asks: residues throughout, and no term of x^e times b that falls outside the places of a
-pub record MultipleAsked (p reciprocal c e : ℕ) (a b : List ℕ) : Type 0 where
-  pub ready : Ready p reciprocal
+pub record MultipleAsked (p c e : ℕ) (a b : List ℕ) : Type 0 where
   pub factor : c < p
   pub target : Coefficients p a
   pub source : Coefficients p b
@@ -30,8 +28,7 @@ abbrev pub plus_times : ℕ → ℕ → List ℕ → ℕ → ℕ → ℕ
 plus_times p c b i x = (x + c * get_or b i 0) % p
 
 -- what the sum of a and c times b asks, which have equally many places
-pub record AddAsked (p reciprocal c : ℕ) (a b : List ℕ) : Type 0 where
-  pub ready : Ready p reciprocal
+pub record AddAsked (p c : ℕ) (a b : List ℕ) : Type 0 where
   pub factor : c < p
   pub same : length a ≡ length b
   pub source : Coefficients p b
@@ -41,8 +38,7 @@ unfoldable pub plus_term : ℕ → ℕ → ℕ → ℕ → List ℕ → List ℕ
 plus_term p c y i a = set a i ((get_or a i 0 + c * y) % p)
 
 -- what the sum of one place asks
-pub record TermAsked (p reciprocal c y i : ℕ) (a : List ℕ) : Type 0 where
-  pub ready : Ready p reciprocal
+pub record TermAsked (p c y i : ℕ) (a : List ℕ) : Type 0 where
   pub factor : c < p
   pub term : y < p
   pub inside : i < length a
@@ -56,8 +52,7 @@ unfoldable pub product_of : ℕ → List ℕ → List ℕ → List ℕ → List 
 product_of p a b out = imap (λ k x. product_at a b k % p) out
 
 -- what the product asks: no term that falls outside the places of out, and sums of products that fit 64 bits
-pub record ProductAsked (p reciprocal : ℕ) (a b out : List ℕ) : Type 0 where
-  pub ready : Ready p reciprocal
+pub record ProductAsked (p : ℕ) (a b out : List ℕ) : Type 0 where
   pub room : (k : ℕ) → length out ≤ k → product_at a b k % p ≡ 0
   pub short : length a ≤ 4294967296
 

@@ -7,8 +7,8 @@ use Rattle.matrix_reduction.proofs.advance.advance.Goals as goal
 
 pub overflow_add-top : goal.overflow_add-top
 overflow_add-top c =
-    let n = c.args.n in
-    let w = c.args.w in
+    let n = c.args.shape.n in
+    let w = c.args.shape.w in
     let rows : 0 < n = omega (arith, c.requires.move.l_fits) in
     omega (arith, c.requires.move.v_size, one_line n w rows, one_line n (n * w) rows)
 

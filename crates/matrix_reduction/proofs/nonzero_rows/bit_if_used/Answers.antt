@@ -2,7 +2,7 @@ use mathlib.Core.Path.{sym, ap, ◌∙◌}
 use Prim.Native.Nat.{ℕ, ◌*◌}
 use native.Mathlib.Nat as N
 use Rattle.theory_reduction.specs.Rank.{sign}
-use Rattle.matrix_pivots.proofs.Summing.{sign-one}
+use Rattle.matrix_reduction.proofs.NonzeroRows.{sign-one}
 use Rattle.matrix_reduction.proofs.nonzero_rows.bit_if_used.Goals as goal
 
 pub returns-then-used-eq0 : goal.returns-then-used-eq0

@@ -5,8 +5,8 @@ use Rattle.matrix_reduction.proofs.Loop.{Going}
 use Rattle.matrix_reduction.proofs.Alone.{NothingElse}
 use Rattle.matrix_reduction.proofs.without_transforms.run_alone.Given as goal
 
-abbrev pub invariant-loop-l : goal.invariant-loop-l
-invariant-loop-l l = Going l.md.p l.n l.m l.w NothingElse l.initial.r l.r l.pivots l.count
+abbrev pub invariant-loop-step : goal.invariant-loop-step
+invariant-loop-step l = Going l.fn.md.p l.fn.shape.n l.fn.shape.m l.fn.shape.w NothingElse l.initial.r l.r l.pivots l.count
 
-abbrev pub decreases-loop-l : goal.decreases-loop-l
-decreases-loop-l l = total l.n (values_of l.m l.w l.r)
+abbrev pub decreases-loop-step : goal.decreases-loop-step
+decreases-loop-step l = total l.fn.shape.n (values_of l.fn.shape.m l.fn.shape.w l.r)

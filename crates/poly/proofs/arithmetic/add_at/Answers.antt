@@ -11,4 +11,4 @@ written p c y i x v a x-is v-is = ap (λ (x : ℕ). set a i x) (v-is ∙ ap (λ 
 
 pub returns : goal.returns
 returns c =
-    written _ _ _ _ _ _ _ c.held.ensures (c.number.ensures ∙ c.plus_product.ensures)
+    written _ _ _ _ _ _ _ c.from.ensures (c.from-2.ensures ∙ c.plus_product.ensures)

@@ -8,11 +8,11 @@ use Rattle.poly.proofs.arithmetic.add_multiple.Goals as goal
 use Rattle.poly.proofs.arithmetic.add_multiple.Goals.{Else-n-eq0}
 
 pub returns-then-n-eq0 : goal.returns-then-n-eq0
-returns-then-n-eq0 c = nothing-added _ _ _ _ _ _ c.requires (sym c.used-n.ensures.0 ∙ c.if-n-eq0.true)
+returns-then-n-eq0 c = nothing-added _ _ _ _ _ c.requires (sym c.used-n.ensures.0 ∙ c.if-n-eq0.true)
 
 -- there is room for what b has
 room : (c : Else-n-eq0) → c.args.e + c.used-n.result ≤ length c.args.a.now
-room c = fits _ _ _ _ _ _ c.requires _ c.used-n.ensures.0 (omega arith)
+room c = fits _ _ _ _ _ c.requires _ c.used-n.ensures.0 (omega arith)
 
 pub overflow_add-end : goal.overflow_add-end
 overflow_add-end c = omega (arith, room (goal.at.overflow_add-end c).Else-n-eq0)
@@ -28,8 +28,8 @@ slice_bounds-add_scaled-end-2 c = sym (length-take-le _ _ (omega arith))
 
 pub add_scaled-requires : goal.add_scaled-requires
 add_scaled-requires c =
-    part-lent _ _ _ _ _ _ c.requires _ c.used-n.ensures.0 (omega arith)
+    part-lent _ _ _ _ _ c.requires _ c.used-n.ensures.0 (omega arith)
 
 pub returns : goal.returns
 returns c =
-    part-back _ _ _ _ _ _ c.requires _ c.used-n.ensures.0 (omega arith) _ c.add_scaled.ensures
+    part-back _ _ _ _ _ c.requires _ c.used-n.ensures.0 (omega arith) _ c.add_scaled.ensures

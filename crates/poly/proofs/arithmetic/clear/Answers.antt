@@ -1,5 +1,4 @@
 use native.Mathlib.Omega.{arith}
-use Prim.Native.Nat.{◌-◌}
 use Rattle.theory_lists.proofs.Change.{changing-start, changing-turn, changing-end}
 use Rattle.poly.specs.arithmetic.Operations.{zeros}
 use Rattle.poly.proofs.arithmetic.clear.Goals as goal
@@ -9,7 +8,7 @@ loop-i-init c = changing-start _ _
 
 pub loop-i-preserved : goal.loop-i-preserved
 loop-i-preserved c =
-    changing-turn _ _ _ _ c.loop-i.invariant _ (omega arith) c.number-zero.ensures
+    changing-turn _ _ _ _ c.loop-i.invariant _ (omega arith) c.from-zero.ensures
 
 pub returns : goal.returns
 unfolding zeros

@@ -1,7 +1,6 @@
 use borrow.Author.Rules.{rules}
 use native.Mathlib.Omega.{arith}
 use mathlib.Core.Path.{refl, ◌∙◌}
-use Prim.Native.Nat.{◌-◌}
 use Rattle.theory_lists.proofs.Change.{imap-copy, changing-start, changing-turn, changing-end}
 use Rattle.poly.proofs.arithmetic.copy.Goals as goal
 

@@ -1,6 +1,6 @@
 use native.Mathlib.Omega.{arith}
 use mathlib.Core.Path.{ap, ◌∙◌}
-use Prim.Native.Nat.{ℕ, ◌*◌, ◌-◌, ◌%◌}
+use Prim.Native.Nat.{ℕ, ◌*◌, ◌%◌}
 use Rattle.theory_lists.proofs.Change.{changing-start, changing-turn, changing-end}
 use Rattle.poly.specs.arithmetic.Operations.{scaled_by}
 use Rattle.poly.proofs.arithmetic.scale.Goals as goal
@@ -11,7 +11,7 @@ loop-i-init c = changing-start _ _
 pub loop-i-preserved : goal.loop-i-preserved
 loop-i-preserved c =
     changing-turn _ _ _ _ c.loop-i.invariant _ (omega arith)
-    (c.number.ensures ∙ c.product.ensures ∙ ap (λ (x : ℕ). c.args.c.0 * x % c.args.md.p) c.held.ensures)
+    (c.from-in-loop-i.ensures ∙ c.product.ensures ∙ ap (λ (x : ℕ). c.args.c.0 * x % c.args.md.p) c.from.ensures)
 
 pub returns : goal.returns
 unfolding scaled_by

@@ -1,6 +1,5 @@
 use native.Mathlib.Omega.{arith}
 use mathlib.Core.Path.{refl}
-use Prim.Native.Nat.{◌-◌}
 use Rattle.poly.proofs.arithmetic.Places.{summing_start, summing-turn, summing-end}
 use Rattle.poly.proofs.arithmetic.sum_at.Goals as goal
 

@@ -1,6 +1,5 @@
 use borrow.Author.Tests.{eqb-true, eq-eqb}
 use native.Mathlib.Omega.{arith}
-use Prim.Native.Nat.{◌-◌}
 use Rattle.poly.proofs.Ending.{gathering-start, gathering-turn}
 use Rattle.poly.proofs.polynomial.all_zero.Goals as goal
 

@@ -1,7 +1,6 @@
 use borrow.Author.Count.{below_more}
 use native.Mathlib.Omega.{arith}
 use mathlib.Core.Path.{sym, ◌∙◌}
-use Prim.Native.Nat.{◌-◌}
 use Rattle.theory_algebra.proofs.Flag.{says-yes, says-no}
 use Rattle.poly.proofs.Ending.{same-height, comparing-end}
 use Rattle.poly.proofs.polynomial.equal.Goals as goal

@@ -9,4 +9,4 @@ returns-then-n-eq0 c = sym (leading-none c.args.a.now (sym c.used-n.ensures.0 �
 
 pub returns : goal.returns
 returns c =
-    c.held.ensures ∙ ap (λ (n : ℕ). get_or c.args.a.now (n - 1) 0) c.used-n.ensures.0
+    c.from.ensures ∙ ap (λ (n : ℕ). get_or c.args.a.now (n - 1) 0) c.used-n.ensures.0

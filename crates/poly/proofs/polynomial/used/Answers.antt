@@ -14,14 +14,14 @@ loop-n-init c = record { within = c.skip-n.ensures.0; zeros = c.skip-n.ensures.1
 pub returns-then-a-n : goal.returns-then-a-n
 returns-then-a-n c =
     let inv = c.loop-n.invariant in
-    (ends_at _ _ inv (λ _. not-zero c.number-zero.ensures c.if-a-n.true), inv.within)
+    (ends_at _ _ inv (λ _. not-zero c.from-zero.ensures c.if-a-n.true), inv.within)
 
 pub loop-n-preserved : goal.loop-n-preserved
 loop-n-preserved c =
     let at = c.loop-n in
     ends-lower _ _ _ at.invariant (omega arith) (λ i h k.
     let last : i ≡ at.n - 1 = omega arith in
-    rw last (c.if-a-n.false ∙ c.number-zero.ensures))
+    rw last (c.if-a-n.false ∙ c.from-zero.ensures))
 
 pub returns : goal.returns
 returns c =

@@ -1,4 +1,3 @@
-use Prim.Native.Nat.{◌-◌}
 use Rattle.poly.proofs.Ending.{Ends}
 use Rattle.poly.proofs.polynomial.used.Given as goal
 

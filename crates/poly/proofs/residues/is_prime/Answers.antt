@@ -1,7 +1,7 @@
 use borrow.Author.Tests.{ltb-true, lt-ltb}
 use native.Mathlib.Omega.{arith}
 use native.Mathlib.Nat.{div-mul-le_self, div-lt_iff_lt-mul}
-use Prim.Native.Nat.{◌≤◌, ◌*◌, ◌-◌}
+use Prim.Native.Nat.{◌≤◌, ◌*◌}
 use Rattle.theory_algebra.proofs.Primality.{by-root}
 use Rattle.theory_algebra.proofs.Flag.{says-yes, says-no}
 use Rattle.poly.proofs.residues.Trial.{trying_start, trying-turn, divides, room}

@@ -1,5 +1,5 @@
 use Prim.Native.Nat.{◌-◌}
-use Rattle.poly.proofs.residues.Trial.{Trying, divides}
+use Rattle.poly.proofs.residues.Trial.{Trying}
 use Rattle.poly.proofs.residues.is_prime.Given as goal
 
 -- No number from 2 to d - 1 divides p, and d is 5 past a multiple of 6. The numbers from d to p fall.
