@@ -1,5 +1,5 @@
 -- The rows that are chosen by pivots are those of the pair of the rows' values.
-use mathlib.Core.Path.{◌≡◌, sym, ap₂, subst, ◌∙◌}
+use mathlib.Core.Path.{◌≡◌, sym, ap₂, subst}
 use mathlib.Core.Logic.{◌⊎◌, inl, inr}
 use mathlib.Core.List.{List}
 use Rattle.std.specs.Prelude.{Option, Some, None}
@@ -24,21 +24,20 @@ module _ (n m : ℕ) (v : ℕ → ℕ) (pivots : List Pivot) (size : length pivo
   index-at i l = (p.row i l).index_is
 
   clash : (i j : ℕ) → i < n → j < n → Meets pivots i j → Clash m (v i) (v j)
-  clash i j li lj x = record { nonzero = omega (arith, index-at i li, x.nonzero); same = sym (index-at i li) ∙ x.same ∙ index-at j lj }
+  clash i j li lj x = grind (arith, index-at i li, index-at j lj)
 
   meets : (i j : ℕ) → i < n → j < n → Clash m (v i) (v j) → Meets pivots i j
-  meets i j li lj x = record { nonzero = omega (arith, index-at i li, x.nonzero); same = index-at i li ∙ x.same ∙ sym (index-at j lj) }
+  meets i j li lj x = grind (arith, index-at i li, index-at j lj)
 
   pair_of : (l k : ℕ) → Chosen pivots l k → Reduction.Pair n m v
   pair_of l k x =
-      let o = x.ordered in
       let f : x.b < n = omega (arith, x.fits, size) in
       record {
         a = x.a;
         b = x.b;
-        ordered = o;
+        ordered = x.ordered;
         fits = f;
-        clash = clash x.a x.b (omega arith) f x.meets;
+        clash = clash x.a x.b (omega (arith, x.ordered)) f x.meets;
         lowest_a = λ i j h g q c. x.lowest_a i j h g (omega arith) (meets i j (omega arith) q c);
         lowest_b = λ j h g c. x.lowest_b j h g (meets x.a j (omega arith) (omega arith) c);
       }

@@ -1,6 +1,5 @@
 -- The search for the last column of a line that is not zero, and for the last line of a row.
-use mathlib.Core.Path.{◌≡◌, refl, sym, ap, ap₂, ◌∙◌}
-use mathlib.Core.Logic.{◌≢◌}
+use mathlib.Core.Path.{◌≡◌, sym, ap, ap₂, ◌∙◌}
 use mathlib.Core.List.{List}
 use Prim.Native.Nat.{ℕ, zero, suc, ◌+◌, ◌-◌, ◌*◌, ◌/◌, ◌%◌, ◌≤◌, ◌<◌}
 use native.Mathlib.Nat as N
@@ -8,11 +7,11 @@ use native.Mathlib.Decide.{dec_le}
 use native.Mathlib.Omega.{arith}
 use lib.ListN.{length, get_or, take, drop}
 use Rattle.theory_lists.specs.Last.{last_nonzero}
-use Rattle.theory_lists.proofs.Last.{last-nil, last-zero, last-here, IsLast, last-is, last-unique}
+use Rattle.theory_lists.proofs.Last.{IsLast, last-is, last-unique}
 use Rattle.theory_lists.proofs.Part.{length_part, get_or-part}
 use Rattle.theory_reduction.specs.Pivot.{index, height}
 use Rattle.theory_reduction.proofs.Index.{index-some, height-some}
-use Rattle.matrix_pivots.specs.Pivot.{Line, RowAsked, IsPivotOf, value_of, row_of}
+use Rattle.matrix_pivots.specs.Pivot.{RowAsked, IsPivotOf, value_of, row_of}
 use Rattle.theory_lists.proofs.Grid.{line-less, within}
 
 -- the coefficients of degree t
@@ -26,41 +25,6 @@ height-above m zero columns = omega arith
 height-above m (suc x) columns =
     let less : suc x - 1 ≡ x = omega arith in
     rw less (omega (arith, N.div-add-mod' x m, N.mod-lt x columns, N.suc-mul (x / m) m))
-
--- where the search of a line stands: the columns from c on are zero
-pub record Searching (row : List ℕ) (m w t c at : ℕ) : Type 0 where
-  pub to : c ≤ m
-  pub at-is : at ≡ c * w + t
-  pub here : last_nonzero m (line row w t) ≡ last_nonzero c (line row w t)
-
-module _ (row : List ℕ) (m w t : ℕ) (asked : Line m w t row) where
-  pub searching-start : Searching row m w t m (m * w + t)
-  searching-start = record { to = omega arith; at-is = refl; here = refl }
-
-  module _ (c at : ℕ) (s : Searching row m w t c at) (some : 0 < c) where
-    pub searching-fits : (w ≤ at) × (at - w ≡ (c - 1) * w + t) × (at - w < length row)
-    searching-fits =
-        let less = line-less c w some in
-        (omega (arith, s.at-is), omega (arith, s.at-is), omega (arith, s.at-is, asked.size, within (c - 1) t m w (omega (arith, s.to)) asked.degree))
-
-    -- what stands there is the coefficient of column c
-    here-is : get_or row (at - w) 0 ≡ line row w t (c - 1)
-    here-is = ap (λ (i : ℕ). get_or row i 0) searching-fits.1
-
-    pub searching-found : get_or row (at - w) 0 ≢ 0 → c ≡ last_nonzero m (line row w t)
-    searching-found ne = sym (s.here ∙ last-here c (line row w t) some (λ z. ne (here-is ∙ z)))
-
-    pub searching-on : get_or row (at - w) 0 ≡ 0 → Searching row m w t (c - 1) (at - w)
-    searching-on z = record {
-      to = omega (arith, s.to);
-      at-is = searching-fits.1;
-      here = s.here ∙ last-zero c (line row w t) some (sym here-is ∙ z);
-    }
-
-  pub searching-none : (c at : ℕ) → Searching row m w t c at → c ≤ 0 → 0 ≡ last_nonzero m (line row w t)
-  searching-none c at s h =
-      let none : c ≡ 0 = omega arith in
-      sym (s.here ∙ ap (λ (x : ℕ). last_nonzero x (line row w t)) none ∙ last-nil (line row w t))
 
 -- the value of a row whose lines from t on are zero and whose line t - 1 ends at column x
 module _ (m w t x : ℕ) (row : List ℕ) (columns : 0 < m) (low : 0 < t) (high : t ≤ w) (some : 0 < x)
@@ -137,12 +101,7 @@ pivot-none m w row columns zeros = record { index_is = sym (ap (index m) none); 
 -- a line that is zero is added to those that are
 pub zeros-more : (m w t : ℕ) (row : List ℕ) → 0 < t → ((c s : ℕ) → c < m → t ≤ s → s < w → get_or row (c * w + s) 0 ≡ 0) → last_nonzero m (line row w (t - 1)) ≡ 0
     → (c s : ℕ) → c < m → t - 1 ≤ s → s < w → get_or row (c * w + s) 0 ≡ 0
-zeros-more m w t row low zeros none c s lc from to = elim (dec_le t s) [
-  | yes later ↦ zeros c s lc later to
-  | no same ↦
-      (let this : s ≡ t - 1 = omega arith in
-      ap (λ (y : ℕ). get_or row (c * w + y) 0) this ∙ (last-is m (line row w (t - 1))).zeros c (omega (arith, none)) lc)
-]
+zeros-more m w t row low zeros none c s lc from to = grind (arith, zeros c s lc, (last-is m (line row w (t - 1))).zeros c)
 
 -- from its height on a row is zero
 pub past-height : (m w : ℕ) (row : List ℕ) → 0 < m → (c t : ℕ) → c < m → height m (value_of m w row) ≤ t → t < w → get_or row (c * w + t) 0 ≡ 0

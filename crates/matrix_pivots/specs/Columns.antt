@@ -1,16 +1,13 @@
 -- A set of at most eight columns, as a mask.
-use Rattle.std.specs.Prelude.{◌≡◌, ◌⊎◌, List, ℕ, ◌-◌, ◌/◌, ◌%◌, ◌^◌, ◌<◌, length}
+use Rattle.std.specs.Prelude.{◌≡◌, ◌⊎◌, List, ℕ, ◌-◌, ◌<◌, length}
+use Rattle.std.specs.Int.{bit_at}
 use Rattle.matrix_pivots.specs.Pivot.{index_at}
 use Rattle.matrix_pivots.specs.declared.pivot.Pivot.{Pivot}
-
--- bit c of a mask: 1 or 0
-abbrev pub bit_of : ℕ → ℕ → ℕ
-bit_of a c = a / 2 ^ c % 2
 
 -- column x, counted from 1, is in the set a
 pub record In (a x : ℕ) : Type 0 where
   pub column : 0 < x
-  pub set : bit_of a (x - 1) ≡ 1
+  pub set : bit_at a (x - 1) ≡ 1
 
 -- b is the set a with column x; x = 0 is no column
 pub record Entered (a x b : ℕ) : Type 0 where
