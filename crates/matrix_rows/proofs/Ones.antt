@@ -2,7 +2,7 @@
 use native.Mathlib.Omega.{arith}
 use mathlib.Core.Path.{◌≡◌, refl, ◌∙◌}
 use mathlib.Core.List.{List}
-use Prim.Native.Nat.{ℕ, suc, ◌+◌, ◌*◌, ◌≤◌, ◌<◌}
+use Prim.Native.Nat.{ℕ, suc, ◌+◌, ◌*◌, ◌<◌}
 use lib.ListN.{length, set, length-set}
 use lib.Seq.{get_or-set_same, get_or-set_other}
 use Rattle.theory_algebra.proofs.Cases.{case-le}
@@ -10,7 +10,6 @@ use Rattle.theory_lists.proofs.Change.{length-imap, get_or-imap-every}
 use Rattle.poly.specs.arithmetic.Operations.{zeros}
 use Rattle.theory_lists.specs.Place.{spot}
 use Rattle.matrix_buffers.specs.Diagonal.{Ones}
-use Rattle.theory_lists.proofs.Grid.{line-end}
 use Rattle.theory_lists.proofs.Place.{spot-inside, spot-own}
 
 pub cleared : (n w : ℕ) (u₀ u : List ℕ) → length u₀ ≡ n * (n * w) → u ≡ zeros u₀ → Ones n w 0 u
@@ -23,9 +22,9 @@ cleared n w u₀ u size u-is = rw u-is (record {
 
 -- row i, after the rows before it
 module _ {n w : ℕ} (some : 0 < w) {i : ℕ} {u : List ℕ} (done : Ones n w i u) (li : i < n) where
-  -- the row and the one in it are within the buffer
-  pub inside : (spot n w i i 0 < length u) × (n * w ≤ length u)
-  inside = (omega (arith, done.size, spot-inside n n w i i 0 li li some), omega (arith, done.size, line-end i n (n * w) li))
+  -- its one is within the buffer
+  inside : spot n w i i 0 < length u
+  inside = omega (arith, done.size, spot-inside n n w i i 0 li li some)
 
   pub turn : {at x : ℕ} → at ≡ spot n w i i 0 → x ≡ 1 → Ones n w (i + 1) (set u at x)
   turn at-is x-is = rw (at-is, x-is) (record {
@@ -33,6 +32,6 @@ module _ {n w : ℕ} (some : 0 < w) {i : ℕ} {u : List ℕ} (done : Ones n w i 
     one = λ j lj. case-le (suc j) i
         (λ before. get_or-set_other u _ _ 1 0 (λ same. omega (arith, (spot-own n w j j 0 i i 0 (omega arith) some li some same).0))
         ∙ done.one j before)
-        (λ from-i. let here : j ≡ i = omega arith in rw here (get_or-set_same u _ 1 0 inside.0));
+        (λ from-i. let here : j ≡ i = omega arith in rw here (get_or-set_same u _ 1 0 inside));
     others = λ x elsewhere. get_or-set_other u _ x 1 0 (elsewhere i (omega arith)) ∙ done.others x (λ j lj. elsewhere j (omega arith));
   })

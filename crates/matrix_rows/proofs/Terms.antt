@@ -11,7 +11,7 @@ use Rattle.theory_algebra.proofs.Cases.{case-le}
 use Rattle.theory_lists.specs.Part.{part}
 use Rattle.theory_lists.proofs.Part.{length_part, get_or-part}
 use Rattle.poly.specs.Polynomial.{used_places}
-use Rattle.poly.specs.arithmetic.Operations.{plus_term, TermAsked}
+use Rattle.poly.specs.arithmetic.Operations.{plus_term}
 use Rattle.poly.proofs.Ending.{ends-height}
 use Rattle.matrix_buffers.specs.Written.{CellsWritten}
 use Rattle.matrix_buffers.specs.Added.{CellAdded}
@@ -62,13 +62,6 @@ module _ {p c e w top to from n : ℕ} {b₀ : List ℕ} (pre : CellPair p c e w
 
     fits : to + w ≤ length b
     fits = omega (arith, done.size, pre.parts.one_fits)
-
-    pub term-asked : TermAsked p c y (e + i) (take (to + w - to) (drop to b))
-    term-asked = rw (add-sub_cancel_left to w) (record {
-      factor = pre.multiplier.factor;
-      term = rw source (pre.from_residues i (omega (arith, few)));
-      inside = omega (arith, length_part to w b fits, few);
-    })
 
     pub term-turn : {l : List ℕ} → l ≡ plus_term p c y (e + i) (take (to + w - to) (drop to b))
         → Adding p c e to from b₀ (take to b ++ (l ++ drop (to + w - to) (drop to b))) (i + 1)

@@ -66,15 +66,9 @@ pub fn add_row(
     requires { RowsInBuffer md.p c.0 e shape.m shape.w top l k buf.old }
     ensures { RowAdded md.p shape.m shape.w c.0 e l k buf.old buf.new }
 {
-    add_cells(
-        buf,
-        Cells::of_row(shape, l),
-        Cells::of_row(shape, k),
-        top,
-        c,
-        e,
-        md,
-    );
+    let to = Cells::of_row(shape, l);
+    let from = Cells::of_row(shape, k);
+    add_cells(buf, to, from, top, c, e, md);
 }
 
 // Column x takes c·x^e times column y.
@@ -92,15 +86,9 @@ pub fn add_column(
     requires { ColumnsInBuffer md.p c.0 e n w top x y v.old }
     ensures { ColumnAdded md.p n w c.0 e x y v.old v.new }
 {
-    add_cells(
-        v,
-        Cells::of_column(n, w, x),
-        Cells::of_column(n, w, y),
-        top,
-        c,
-        e,
-        md,
-    );
+    let to = Cells::of_column(n, w, x);
+    let from = Cells::of_column(n, w, y);
+    add_cells(v, to, from, top, c, e, md);
 }
 
 // The identity: zeros, and then a one in each row.

@@ -1,13 +1,7 @@
-use native.Mathlib.Nat.{le_antisymm}
-use Rattle.matrix_buffers.proofs.CellByCell.{none_written}
-use Rattle.matrix_rows.proofs.Terms.{term-asked, term-turn, terms-end}
+use mathlib.Core.Path.{◌≡◌}
+use native.Mathlib.Omega.{arith}
+use Rattle.matrix_rows.proofs.Terms.{term-turn, terms-end}
 use Rattle.matrix_rows.proofs.add_cell.Goals as goal
-
-pub loop-i-init : goal.loop-i-init
-loop-i-init c = none_written
-
-pub add_at-requires : goal.add_at-requires
-add_at-requires c = term-asked c.requires c.used-n.ensures.0 c.loop-i.invariant c.loop-i-test.true c.from-y.ensures
 
 pub loop-i-preserved : goal.loop-i-preserved
 loop-i-preserved c =
@@ -15,4 +9,4 @@ loop-i-preserved c =
 
 pub returns : goal.returns
 returns c =
-    terms-end c.requires c.used-n.ensures.0 (rw (le_antisymm c.loop-i.auto.i-end c.loop-i-test.false) at c.loop-i.invariant)
+    let all : c.loop-i.i ≡ c.used-n.result = omega arith in terms-end c.requires c.used-n.ensures.0 (rw all at c.loop-i.invariant)
