@@ -1,17 +1,14 @@
 -- The zeros at the end of a list, and what is read off where they begin: the degree, the leading coefficient, sameness.
-use mathlib.Core.Path.{◌≡◌, refl, sym, ap, ap₂, ◌∙◌}
+use mathlib.Core.Path.{◌≡◌, sym, ap, ap₂, ◌∙◌}
 use mathlib.Core.Logic.{◌≢◌, ◌↔◌}
-use mathlib.Core.List.{List}
-use Prim.Native.Nat.{ℕ, suc, ◌+◌, ◌-◌, ◌^◌, ◌≤◌, ◌<◌}
+use mathlib.Core.List.{List, [], ◌∷◌}
+use Prim.Native.Nat.{ℕ, zero, suc, ◌+◌, ◌-◌, ◌≤◌, ◌<◌}
 use native.Mathlib.Decide.{dec_le}
 use native.Mathlib.Omega.{arith}
-use borrow.Author.Count.{below_more}
-use borrow.Author.Tests.{lt-ltb}
 use lib.Bits.{bit_or, or_add_and, and_le_l, and_le_r}
-use lib.IntN.{pos, pred_ℤ}
-use lib.ListN.{length, get_or}
-use mir.Syntax.{w64}
-use mir.Val.{to_z}
+use lib.ListN.{length, get_or, take}
+use lib.Seq.{ext_get_or, get_or-take, length-take-le}
+use Rattle.std.specs.List.{fold}
 use Rattle.theory_lists.specs.Part.{part}
 use Rattle.theory_lists.proofs.Change.{get_or-past}
 use Rattle.theory_lists.proofs.Last.{last-is, last-unique}
@@ -22,35 +19,26 @@ use Rattle.poly.specs.Polynomial.{used_places, leading_of, SamePolynomial}
 abbrev pub ZerosBelow : List ℕ → ℕ → Type 0
 ZerosBelow l i = (j : ℕ) → j < i → get_or l j 0 ≡ 0
 
--- where the loop stands that gathers the bits of all places, having come to i
-pub record Gathering (l : List ℕ) (bits i : ℕ) : Type 0 where
-  pub within : i ≤ length l
-  pub tells : (bits ≡ 0) ↔ ZerosBelow l i
+zeros-more : (x : ℕ) (l : List ℕ) → x ≡ 0 → ZerosBelow l (length l) → ZerosBelow (x ∷ l) (suc (length l))
+zeros-more x l e z zero h = e
+zeros-more x l e z (suc j) h = z j (omega arith)
 
-pub gathering-start : (l : List ℕ) → Gathering l 0 0
-gathering-start l = record { within = omega arith; tells = ((λ _ j h. omega arith), (λ _. refl)) }
-
-pub gathering-turn : (l : List ℕ) (bits i : ℕ) → Gathering l bits i → i < length l → Gathering l (bit_or bits (get_or l i 0)) (i + 1)
-gathering-turn l bits i g h =
-    let x = get_or l i 0 in
+-- the bits of all places and of what there was before are 0 exactly where all of these are
+pub gathered : (l : List ℕ) (bits : ℕ) → (fold bit_or bits l ≡ 0) ↔ ((bits ≡ 0) × ZerosBelow l (length l))
+gathered [] bits = ((λ z. (z, λ j h. absurd (omega arith))), (λ z. z.0))
+gathered (x ∷ l) bits =
     let shared = or_add_and bits x in
     let in-bits = and_le_l bits x in
     let in-x = and_le_r bits x in
-    record {
-      within = omega arith;
-      tells = (
-        λ z. below_more (λ j. get_or l j 0 ≡ 0) i (g.tells.0 (omega arith)) (omega arith),
-        λ a. ap₂ bit_or (g.tells.1 (λ j k. a j (omega arith))) (a i (omega arith)),
-      );
-    }
+    let rest = gathered l (bit_or bits x) in (
+      (λ z. let none : bit_or bits x ≡ 0 = (rest.0 z).0 in (omega arith, zeros-more x l (omega arith) (rest.0 z).1)),
+      (λ z. rest.1 (ap₂ bit_or z.0 (z.1 0 (omega arith)), λ j h. z.1 (suc j) (omega arith))),
+    )
 
 -- all that is not zero stands before n
 pub record Ends (l : List ℕ) (n : ℕ) : Type 0 where
   pub within : n ≤ length l
   pub zeros : (i : ℕ) → n ≤ i → get_or l i 0 ≡ 0
-
-pub ends-start : (l : List ℕ) → Ends l (length l)
-ends-start l = record { within = omega arith; zeros = get_or-past l }
 
 -- and before s, where the places from s to n are zero
 pub ends-lower : (l : List ℕ) (s n : ℕ) → Ends l n → s ≤ n → ((i : ℕ) → s ≤ i → i < n → get_or l i 0 ≡ 0) → Ends l s
@@ -77,16 +65,39 @@ ends-height l = let x = last-is (length l) (λ i. get_or l i 0) in record {
 pub ends_at : (l : List ℕ) (n : ℕ) → Ends l n → (0 < n → get_or l (n - 1) 0 ≢ 0) → n ≡ used_places l
 ends_at l n e top = sym (last-unique (length l) (λ i. get_or l i 0) n (record { within = e.within; zeros = λ i h _. e.zeros i h; top = top }))
 
--- the zero polynomial has no leading coefficient
-pub leading-none : (l : List ℕ) → used_places l ≡ 0 → leading_of l ≡ 0
-leading-none l z = (ends-height l).zeros (used_places l - 1) (omega arith)
+-- of the first n places, past which there are zeros only, the last that is not zero, or none
+module _ (l : List ℕ) (n : ℕ) (left : (n ≤ length l) × ((i : ℕ) → n ≤ i → get_or l i 0 ≡ 0)) where
+  ends : Ends l n
+  ends = record { within = left.0; zeros = left.1 }
 
--- the degree of a polynomial that is not zero, as the machine has it
-pub machine-degree : (h n : ℕ) → n ≡ h → 0 < n → n ≤ 2 ^ 63 → to_z w64 (n - 1) ≡ pred_ℤ (pos h)
-machine-degree h n e po fits = simp (lt-ltb (n - 1) (2 ^ 63) (omega arith)) (sym (ap (λ (m : ℕ). pred_ℤ (pos m)) (sym e ∙ whole)))
-  where
-    whole : n ≡ suc (n - 1)
-    whole = omega arith
+  long : length (take n l) ≡ n
+  long = length-take-le n l left.0
+
+  pub used-some : (i : ℕ) → i < length (take n l) → get_or (take n l) i 0 ≢ 0
+      → ((k : ℕ) → i + 1 ≤ k → k < length (take n l) → get_or (take n l) k 0 ≡ 0)
+      → i + 1 ≡ used_places l
+  used-some i low top z =
+      let here : i + 1 - 1 ≡ i = omega arith in
+      ends_at l (i + 1) (ends-lower l (i + 1) n ends (omega (arith, long)) (λ k h m. sym (get_or-take n l k 0 m) ∙ z k h (omega (arith, long))))
+      (λ _ none. top (get_or-take n l i 0 (omega (arith, long)) ∙ rw here at none))
+
+  pub used-none : ZerosBelow (take n l) (length (take n l)) → 0 ≡ used_places l
+  used-none z =
+      ends_at l 0 (ends-lower l 0 n ends (omega arith) (λ k _ m. sym (get_or-take n l k 0 m) ∙ z k (omega (arith, long)))) (λ h. absurd (omega arith))
+
+-- the places up to the last that is not zero
+length-used : (l : List ℕ) → length (take (used_places l) l) ≡ used_places l
+length-used l = length-take-le (used_places l) l (ends-height l).within
+
+get_or-used : (l : List ℕ) (j : ℕ) → get_or (take (used_places l) l) j 0 ≡ get_or l j 0
+get_or-used l j = elim (dec_le (used_places l) j) [
+  | yes past ↦ get_or-past _ j (omega (arith, length-used l)) ∙ sym ((ends-height l).zeros j past)
+  | no before ↦ get_or-take (used_places l) l j 0 (omega arith)
+]
+
+-- the last of them is the leading coefficient
+pub leading-used : (l : List ℕ) → get_or (take (used_places l) l) (length (take (used_places l) l) - 1) 0 ≡ leading_of l
+leading-used l = get_or-used l _ ∙ ap (λ (n : ℕ). get_or l (n - 1) 0) (length-used l)
 
 module _ (a b : List ℕ) where
   -- the same polynomial ends at the same place
@@ -105,17 +116,9 @@ module _ (a b : List ℕ) where
         zeros = λ i h. s.same i ∙ (ends-height b).zeros i h;
       }
 
-  -- where the loop stands that compares two lists that end at n, having come to i
-  pub record Comparing (n i : ℕ) : Type 0 where
-    pub first : n ≡ used_places a
-    pub second : n ≡ used_places b
-    pub to : i ≤ n
-    pub same : (j : ℕ) → j < i → get_or a j 0 ≡ get_or b j 0
-
-  pub comparing-end : (n i : ℕ) → Comparing n i → n ≤ i → SamePolynomial a b
-  comparing-end n i c h = record {
-    same = λ j. elim (dec_le n j) [
-      | yes past ↦ (ends-height a).zeros j (omega (arith, c.first)) ∙ sym ((ends-height b).zeros j (omega (arith, c.second)))
-      | no before ↦ c.same j (omega arith)
-    ];
-  }
+  -- and has the same places before it
+  pub same_used : (take (used_places a) a ≡ take (used_places b) b) ↔ SamePolynomial a b
+  same_used = (
+    (λ e. record { same = λ j. sym (get_or-used a j) ∙ ap (λ (l : List ℕ). get_or l j 0) e ∙ get_or-used b j }),
+    (λ s. ext_get_or 0 _ _ (length-used a ∙ same-height s ∙ sym (length-used b)) (λ j _. get_or-used a j ∙ s.same j ∙ sym (get_or-used b j))),
+  )

@@ -1,4 +1,3 @@
-pub mod Width
 pub mod Range
 pub mod Reciprocal
 pub mod Inverting

@@ -11,11 +11,9 @@ fn add_scaled(a: &mut [u16], b: &[u16], c: Residue, md: Modulus)
     requires { AddAsked md.p c.0 a.old b.now }
     ensures { a.new ≡ imap (plus_times md.p c.0 b.now) a.old }
 {
-    let mut i = 0;
-    while i < a.len() {
-        let x = Residue::from(a[i]).plus_product(c, Residue::from(b[i]), md);
-        a[i] = u16::from(x);
-        i += 1;
+    // No zip: of an iter_mut under another iterator a proof knows no element.
+    for (i, x) in a.iter_mut().enumerate() {
+        *x = u16::from(Residue::from(*x).plus_product(c, Residue::from(b[i]), md));
     }
 }
 
@@ -41,25 +39,17 @@ pub fn add_multiple(a: &mut [u16], b: &[u16], c: Residue, e: usize, md: Modulus)
     add_scaled(&mut a[start..end], &b[..n], c, md);
 }
 
-// a less b, or 0.
-fn excess(a: usize, b: usize) -> usize
-    ensures { result ≡ a - b }
-{
-    if a < b { 0 } else { a - b }
-}
-
 // The sum of a_i·b_(k-i), over the places that both have.
 fn sum_at(a: &[u16], b: &[u16], k: usize) -> u64
     requires { (length a.now ≤ 4294967296) × (k < 9223372036854775808) }
     ensures { result ≡ product_at a.now b.now k }
 {
     let n = k + 1;
-    let end = n - excess(n, a.len());
-    let mut i = excess(n, b.len());
+    let start = n.saturating_sub(b.len());
+    let end = n - n.saturating_sub(a.len());
     let mut sum: u64 = 0;
-    while i < end {
+    for i in start..end {
         sum += whole_product(a[i], b[k - i]);
-        i += 1;
     }
     sum
 }
@@ -67,7 +57,7 @@ fn sum_at(a: &[u16], b: &[u16], k: usize) -> u64
 fn whole_product(x: u16, y: u16) -> u64
     ensures { (result ≡ x * y) × (result ≤ 4294836225) }
 {
-    (x as u64) * (y as u64)
+    u64::from(x) * u64::from(y)
 }
 
 // a times b, reduced once for each place of out.
@@ -75,10 +65,8 @@ pub fn product(a: &[u16], b: &[u16], out: &mut [u16], md: Modulus)
     requires { ProductAsked md.p a.now b.now out.old }
     ensures { out.new ≡ product_of md.p a.now b.now out.old }
 {
-    let mut k = 0;
-    while k < out.len() {
-        out[k] = u16::from(Residue::of_sum(sum_at(a, b, k), md));
-        k += 1;
+    for (k, x) in out.iter_mut().enumerate() {
+        *x = u16::from(Residue::of_sum(sum_at(a, b, k), md));
     }
 }
 
@@ -86,10 +74,8 @@ pub fn product(a: &[u16], b: &[u16], out: &mut [u16], md: Modulus)
 pub fn scale(a: &mut [u16], c: Residue, md: Modulus)
     ensures { a.new ≡ scaled_by md.p c.0 a.old }
 {
-    let mut i = 0;
-    while i < a.len() {
-        a[i] = u16::from(c.product(Residue::from(a[i]), md));
-        i += 1;
+    for x in a.iter_mut() {
+        *x = u16::from(c.product(Residue::from(*x), md));
     }
 }
 
@@ -97,20 +83,11 @@ pub fn copy(from: &[u16], to: &mut [u16])
     requires { length from.now ≡ length to.old }
     ensures { to.new ≡ from.now }
 {
-    let mut i = 0;
-    while i < to.len() {
-        to[i] = from[i];
-        i += 1;
-    }
+    to.copy_from_slice(from);
 }
 
 pub fn clear(a: &mut [u16])
     ensures { a.new ≡ zeros a.old }
 {
-    let zero = u16::from(Residue::ZERO);
-    let mut i = 0;
-    while i < a.len() {
-        a[i] = zero;
-        i += 1;
-    }
+    a.fill(0);
 }

@@ -12,13 +12,7 @@ pub struct Degree(pub i64);
 fn all_zero(a: &[u16]) -> bool
     ensures { (result ≡ true) ↔ ((i : ℕ) → i < length a.now → get_or a.now i 0 ≡ 0) }
 {
-    let mut bits: u16 = 0;
-    let mut i = 0;
-    while i < a.len() {
-        bits |= a[i];
-        i += 1;
-    }
-    bits == 0
+    a.iter().fold(0, |bits, x| bits | *x) == 0
 }
 
 // The places that are left when zeros at the end are dropped in eights.
@@ -26,12 +20,8 @@ fn skip(a: &[u16]) -> usize
     ensures { (result ≤ length a.now) × ((i : ℕ) → result ≤ i → get_or a.now i 0 ≡ 0) }
 {
     let mut n = a.len();
-    while 8 <= n {
-        let start = n - 8;
-        if !all_zero(&a[start..n]) {
-            return n;
-        }
-        n = start;
+    while 8 <= n && all_zero(&a[n - 8..n]) {
+        n -= 8;
     }
     n
 }
@@ -40,15 +30,10 @@ fn skip(a: &[u16]) -> usize
 pub fn used(a: &[u16]) -> usize
     ensures { (result ≡ used_places a.now) × (result ≤ length a.now) }
 {
-    let zero = u16::from(Residue::ZERO);
-    let mut n = skip(a);
-    while 0 < n {
-        if a[n - 1] != zero {
-            return n;
-        }
-        n -= 1;
+    match a[..skip(a)].iter().rposition(|x| *x != 0) {
+        Some(last) => last + 1,
+        None => 0,
     }
-    0
 }
 
 impl Degree {
@@ -67,27 +52,14 @@ impl Degree {
 pub fn leading(a: &[u16]) -> Residue
     ensures { result.0 ≡ leading_of a.now }
 {
-    let n = used(a);
-    if n == 0 {
-        return Residue::ZERO;
-    }
-    Residue::from(a[n - 1])
+    a[..used(a)]
+        .last()
+        .map_or(Residue::ZERO, |x| Residue::from(*x))
 }
 
 // Whether the two are the same polynomial, whatever zeros stand behind.
 pub fn equal(a: &[u16], b: &[u16]) -> bool
     ensures { (result ≡ true) ↔ SamePolynomial a.now b.now }
 {
-    let n = used(a);
-    if n != used(b) {
-        return false;
-    }
-    let mut i = 0;
-    while i < n {
-        if a[i] != b[i] {
-            return false;
-        }
-        i += 1;
-    }
-    true
+    a[..used(a)] == b[..used(b)]
 }

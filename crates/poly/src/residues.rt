@@ -34,7 +34,7 @@ impl Modulus {
     {
         Modulus {
             p,
-            reciprocal: (4294967296 / (p as u64)) as u32,
+            reciprocal: (4294967296 / u64::from(p)) as u32,
         }
     }
 
@@ -42,7 +42,7 @@ impl Modulus {
     fn remainder(self, x: u32) -> u16
         ensures { result ≡ x % self.p }
     {
-        let q = ((x as u64) * (self.reciprocal as u64) / 4294967296) as u32;
+        let q = (u64::from(x) * u64::from(self.reciprocal) / 4294967296) as u32;
         let r = x - q * self.p;
         if r < self.p {
             r as u16
@@ -88,14 +88,14 @@ impl Residue {
     pub(crate) fn of_sum(x: u64, md: Modulus) -> Residue
         ensures { result.0 ≡ x % md.p }
     {
-        Residue((x % (md.p as u64)) as u16)
+        Residue((x % u64::from(md.p)) as u16)
     }
 
     pub fn sum(self, b: Residue, md: Modulus) -> Residue
         requires { Residues₂ md.p self.0 b.0 }
         ensures { result.0 ≡ (self.0 + b.0) % md.p }
     {
-        let s = (self.0 as u32) + (b.0 as u32);
+        let s = u32::from(self.0) + u32::from(b.0);
         if s < md.p {
             Residue(s as u16)
         } else {
@@ -110,14 +110,14 @@ impl Residue {
         if b.0 <= self.0 {
             Residue(self.0 - b.0)
         } else {
-            Residue(((self.0 as u32) + (md.p - (b.0 as u32))) as u16)
+            Residue((u32::from(self.0) + (md.p - u32::from(b.0))) as u16)
         }
     }
 
     pub fn product(self, b: Residue, md: Modulus) -> Residue
         ensures { result.0 ≡ self.0 * b.0 % md.p }
     {
-        Residue(md.remainder((self.0 as u32) * (b.0 as u32)))
+        Residue(md.remainder(u32::from(self.0) * u32::from(b.0)))
     }
 
     // The rule of one place: c times y is added, and the sum fits 32 bits.
@@ -125,7 +125,7 @@ impl Residue {
         requires { Residues₂ md.p c.0 y.0 }
         ensures { result.0 ≡ (self.0 + c.0 * y.0) % md.p }
     {
-        Residue(md.remainder((self.0 as u32) + (c.0 as u32) * (y.0 as u32)))
+        Residue(md.remainder(u32::from(self.0) + u32::from(c.0) * u32::from(y.0)))
     }
 
     // By p = (p / a) * a + p % a: each turn goes from a to p % a by one division, and so on down to 1.
@@ -135,11 +135,11 @@ impl Residue {
         ensures { Inverse md.p self.0 result.0 }
     {
         let p = md.p;
-        let mut left = self.0 as u32;
+        let mut left = u32::from(self.0);
         let mut found = Residue::ONE;
         while 1 < left {
             let q = p / left;
-            found = Residue(md.remainder((found.0 as u32) * (p - q)));
+            found = Residue(md.remainder(u32::from(found.0) * (p - q)));
             left = p - q * left;
         }
         found

@@ -1,13 +1,13 @@
 -- What the loops over the places of polynomials come to: the sum at one place of a product, and a sum over a part.
 use mathlib.Core.Path.{◌≡◌, refl, sym, ap, ap₂, ◌∙◌}
-use mathlib.Core.List.{List, ◌++◌}
+use mathlib.Core.List.{List, [], ◌∷◌, ◌++◌}
 use Prim.Native.Nat.{ℕ, suc, ◌+◌, ◌*◌, ◌-◌, ◌%◌, ◌≤◌, ◌<◌}
 use native.Mathlib.Nat.{zero-mul, mul-zero, add-zero, mod-eq_of_lt, add-sub_cancel_left}
 use native.Mathlib.Numerals.{add-one}
 use native.Mathlib.Decide.{dec_le}
 use native.Mathlib.Omega.{arith}
-use lib.ListN.{length, get_or, take, drop}
-use lib.Seq.{ext_get_or, get_or-take, length-take-le}
+use lib.ListN.{length, get_or, replicate, take, drop}
+use lib.Seq.{ext_get_or, get_or-take}
 use borrow.Author.Tests.{le-leb, lt-leb}
 use Rattle.theory_lists.specs.Change.{imap}
 use Rattle.theory_lists.specs.Part.{part, on_part}
@@ -18,7 +18,13 @@ use Rattle.theory_lists.proofs.Last.{last-is}
 use Rattle.theory_lists.proofs.Total.{total-suc, total-more}
 use Rattle.poly.proofs.Ending.{ends-height}
 use Rattle.poly.specs.Polynomial.{used_places}
-use Rattle.poly.specs.arithmetic.Operations.{shifted, plus_times, plus_multiple, MultipleAsked, AddAsked, product_at}
+use Rattle.poly.specs.arithmetic.Operations.{shifted, plus_times, plus_multiple, MultipleAsked, product_at, zeros}
+
+-- zeros as the list that is written
+pub zeros-replicate : (l : List ℕ) → zeros l ≡ replicate (length l) 0
+unfolding zeros imap
+zeros-replicate [] = refl
+zeros-replicate (x ∷ l) = ap (λ (t : List ℕ). 0 ∷ t) (zeros-replicate l)
 
 -- a product's coefficient at k
 module _ (a b : List ℕ) (k : ℕ) where
@@ -130,21 +136,7 @@ module _ (p c e : ℕ) (a b : List ℕ) (pre : MultipleAsked p c e a b) where
       ]
     ]
 
-    within : n ≤ length b
-    within = omega (arith, (ends-height b).within)
-
-    -- what a sum asks of the part that is lent, and what is there when it comes back
-    pub part-lent : AddAsked p c (take (e + n - e) (drop e a)) (take n b)
-    part-lent = record {
-      factor = pre.factor;
-      same = rw (add-sub_cancel_left e n) (length_part e n a fits ∙ sym (length-take-le n b within));
-      source = record {
-        below = λ i h.
-            let l : i < n = omega (arith, length-take-le n b within) in
-            rw (get_or-take n b i 0 l) (pre.source.below i (omega (arith, within)));
-      };
-    }
-
+    -- what is there when the part that is lent comes back
     pub part-back : (new : List ℕ) → new ≡ imap (plus_times p c (take n b)) (take (e + n - e) (drop e a))
         → take e a ++ (new ++ drop (e + n - e) (drop e a)) ≡ plus_multiple p c e b a
     unfolding add on_part

@@ -1,12 +1,11 @@
 -- The inverse: from a multiple of a that is k modulo p to one that is p % k, and so on down to 1.
 use mathlib.Core.Path.{◌≡◌, sym, ap, ◌∙◌}
-use Prim.Native.Nat.{ℕ, ◌*◌, ◌-◌, ◌/◌, ◌%◌, ◌≤◌, ◌<◌}
-use native.Mathlib.Nat.{mul_assoc, mul-one, mul-add-mod_self_left, mod-eq_of_lt, mod-eq-sub-div-mul, mod-lt, pos_of_ne-zero}
+use Prim.Native.Nat.{ℕ, ◌*◌, ◌-◌, ◌/◌, ◌%◌, ◌<◌}
+use native.Mathlib.Nat.{mul_assoc, mul-add-mod_self_left, mod-eq_of_lt, mod-eq-sub-div-mul, mod-lt, pos_of_ne-zero}
 use native.Mathlib.Omega.{arith}
 use Rattle.theory_algebra.specs.Prime.{Prime}
 use Rattle.theory_algebra.proofs.Residue.{complement}
 use Rattle.theory_algebra.proofs.Residue.{mul_mod_left, mul_mod_right}
-use Rattle.poly.proofs.residues.Width.{product-most}
 
 -- where the loop stands that has come to k: found times a is k modulo p
 pub record Inverting (p a k found : ℕ) : Type 0 where
@@ -15,16 +14,7 @@ pub record Inverting (p a k found : ℕ) : Type 0 where
   pub below : found < p
   pub is : a * found % p ≡ k
 
-pub inverting-start : (p a : ℕ) → 0 < a → a < p → Inverting p a a 1
-inverting-start p a some low = record { some = some; low = low; below = omega arith; is = ap (λ (n : ℕ). n % p) (mul-one a) ∙ mod-eq_of_lt low }
-
 module _ (p a k found : ℕ) (at : Inverting p a k found) where
-  pub inverting-fits : p ≤ 65521 → found * (p - p / k) ≤ 4293001441
-  inverting-fits most = product-most 65521 65521 (omega arith) (omega arith)
-
-  pub inverting-less : p - p / k * k < k
-  inverting-less = rw (← mod-eq-sub-div-mul p k) (mod-lt p at.some)
-
   next : a * (found * (p - p / k) % p) % p ≡ p % k
   next =
       let small : p % k < k = mod-lt p at.some in

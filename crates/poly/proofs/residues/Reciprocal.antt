@@ -1,8 +1,8 @@
 -- A division by p as two products (Barrett): x · ⌊2^32 / p⌋ / 2^32 is ⌊x / p⌋ or one less.
 use mathlib.Core.Path.{◌≡◌, sym, ap, ◌∙◌}
-use Prim.Native.Nat.{ℕ, ◌^◌, ◌+◌, ◌*◌, ◌-◌, ◌/◌, ◌%◌, ◌≤◌, ◌<◌}
+use Prim.Native.Nat.{ℕ, ◌+◌, ◌*◌, ◌-◌, ◌/◌, ◌%◌, ◌≤◌, ◌<◌}
 use native.Mathlib.Nat.{div-add-mod', mod-lt, add-mul, mul-add, mul_assoc, mul_right_comm, mul-le-mul, le_of_lt}
-use native.Mathlib.Nat.{mod-eq_of_lt, mul-add-mod_self_right, mod-eq-sub-mod, div-le_self}
+use native.Mathlib.Nat.{mod-eq_of_lt, mul-add-mod_self_right, mod-eq-sub-mod}
 use native.Mathlib.Omega.{arith}
 use Rattle.poly.specs.residues.Modulus.{Ready}
 
@@ -51,16 +51,6 @@ module _ (x p i : ℕ) (x_fits : x < 4294967296) (ready : Ready p i) where
   pub near : x < x * i / 4294967296 * p + p + p
   unfolding q
   near = omega (arith, by-quotient, by_reciprocal, s-small, t-small)
-
-  pub product-fits : x * i < 2 ^ 64
-  product-fits =
-      let i_fits : i ≤ 4294967296 = omega (arith, ready.reciprocal_is, div-le_self 4294967296 p) in
-      let x-most : x ≤ 4294967295 = omega arith in
-      let h : x * i ≤ 4294967295 * 4294967296 = mul-le-mul x-most i_fits in
-      omega arith
-
-  pub quotient_fits : x * i / 4294967296 < 2 ^ 32
-  quotient_fits = omega (arith, product-fits)
 
   -- what is left of x is its remainder, or p more
   rest : x % p ≡ (x - x * i / 4294967296 * p) % p

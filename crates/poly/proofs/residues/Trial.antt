@@ -1,14 +1,10 @@
 -- The search for a divisor of p, which after 2 and 3 tries the numbers 6k - 1 and 6k + 1 only.
 use mathlib.Core.Path.{◌≡◌, sym, ap, ◌∙◌}
 use Prim.Native.Nat.{ℕ, ◌+◌, ◌*◌, ◌/◌, ◌%◌, ◌≤◌}
-use native.Mathlib.Nat.{zero-mod, mod-mod_of_dvd, dvd_of_mod-eq-zero, div-add-mod', mul-le-mul_right, le_trans}
-use native.Mathlib.Decide.{ℕ_discrete, dec_le}
+use native.Mathlib.Nat.{zero-mod, mod-mod_of_dvd, dvd_of_mod-eq-zero, div-add-mod'}
+use native.Mathlib.Decide.{dec_le}
 use native.Mathlib.Omega.{arith}
 use Rattle.theory_algebra.proofs.Primality.{NoneBelow}
-
--- d divides p where the quotient gives p back
-pub divides : (p d : ℕ) → p / d * d ≡ p → p % d ≡ 0
-divides p d h = omega (arith, div-add-mod' p d)
 
 -- where the search stands that has come to d
 pub record Trying (p d : ℕ) : Type 0 where
@@ -19,16 +15,6 @@ pub record Trying (p d : ℕ) : Type 0 where
 -- what divides a divisor divides p
 through : (p e f : ℕ) → e % f ≡ 0 → p % e ≡ 0 → p % f ≡ 0
 through p e f h z = sym (mod-mod_of_dvd f p (dvd_of_mod-eq-zero f h)) ∙ ap (λ (x : ℕ). x % f) z ∙ zero-mod f
-
-pub trying_start : (p : ℕ) → (p % 2 ≡ 0 → ⊥) → (p % 3 ≡ 0 → ⊥) → Trying p 5
-trying_start p odd other = record {
-  none = λ e l h z. elim (ℕ_discrete (e % 2) 0) [
-    | yes even ↦ odd (through p e 2 even z)
-    | no uneven ↦ (let three : e ≡ 3 = omega arith in other (rw three at z))
-  ];
-  from = omega arith;
-  place = omega arith;
-}
 
 -- of the numbers from d to d + 5 all but d and d + 2 are multiples of 2 or of 3
 pub trying-turn : (p d : ℕ) → Trying p d → (p / d * d ≡ p → ⊥) → (p % (d + 2) ≡ 0 → ⊥) → Trying p (d + 6)
@@ -45,7 +31,3 @@ trying-turn p d t first second = record { none = none; from = omega arith; place
             | no past ↦ (let same : e ≡ d + 2 = omega arith in second (rw same at z))
           ])
     ]
-
--- while d is not past the root, p is at least five times d
-pub room : (p d : ℕ) → Trying p d → d ≤ p / d → 5 * d ≤ p
-room p d t h = omega (arith, div-add-mod' p d, mul-le-mul_right d (le_trans t.from h))

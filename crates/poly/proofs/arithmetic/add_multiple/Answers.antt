@@ -2,8 +2,7 @@ use native.Mathlib.Omega.{arith}
 use mathlib.Core.Path.{sym, ◌∙◌}
 use Prim.Native.Nat.{◌+◌, ◌≤◌}
 use lib.ListN.{length}
-use lib.Seq.{length-take-le}
-use Rattle.poly.proofs.arithmetic.Places.{nothing-added, fits, part-lent, part-back}
+use Rattle.poly.proofs.arithmetic.Places.{nothing-added, fits, part-back}
 use Rattle.poly.proofs.arithmetic.add_multiple.Goals as goal
 use Rattle.poly.proofs.arithmetic.add_multiple.Goals.{Else-n-eq0}
 
@@ -22,13 +21,6 @@ offset_bounds-a-start c = omega (arith, room (goal.at.offset_bounds-a-start c).E
 
 pub slice_bounds-add_scaled-end : goal.slice_bounds-add_scaled-end
 slice_bounds-add_scaled-end c = omega (arith, room (goal.at.slice_bounds-add_scaled-end c).Else-n-eq0)
-
-pub slice_bounds-add_scaled-end-2 : goal.slice_bounds-add_scaled-end-2
-slice_bounds-add_scaled-end-2 c = sym (length-take-le _ _ (omega arith))
-
-pub add_scaled-requires : goal.add_scaled-requires
-add_scaled-requires c =
-    part-lent _ _ _ _ _ c.requires _ c.used-n.ensures.0 (omega arith)
 
 pub returns : goal.returns
 returns c =

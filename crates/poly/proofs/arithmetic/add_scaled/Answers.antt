@@ -7,14 +7,10 @@ use Rattle.poly.proofs.arithmetic.add_scaled.Goals as goal
 pub loop-i-init : goal.loop-i-init
 loop-i-init c = changing-start _ _
 
-pub plus_product-x-requires : goal.plus_product-x-requires
-plus_product-x-requires c =
-    record { left = c.requires.factor; right = rw c.from-in-loop-i.ensures (c.requires.source.below _ (omega arith)) }
-
 pub loop-i-preserved : goal.loop-i-preserved
 loop-i-preserved c =
     changing-turn _ _ _ _ c.loop-i.invariant _ (omega arith)
-    (c.from-in-loop-i-2.ensures ∙ c.plus_product-x.ensures
+    (c.from-in-loop-i-2.ensures ∙ c.plus_product.ensures
     ∙ ap₂ (λ (x y : ℕ). (x + c.args.c.0 * y) % c.args.md.p) c.from.ensures c.from-in-loop-i.ensures)
 
 pub returns : goal.returns

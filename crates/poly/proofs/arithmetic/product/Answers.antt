@@ -8,10 +8,6 @@ use Rattle.poly.proofs.arithmetic.product.Goals as goal
 pub loop-k-init : goal.loop-k-init
 loop-k-init c = changing-start _ _
 
-pub sum_at-requires : goal.sum_at-requires
-sum_at-requires c =
-    (c.requires.short, omega arith)
-
 pub loop-k-preserved : goal.loop-k-preserved
 loop-k-preserved c =
     changing-turn _ _ _ _ c.loop-k.invariant _ (omega arith)

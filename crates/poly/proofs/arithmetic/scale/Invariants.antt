@@ -1,11 +1,7 @@
-use Prim.Native.Nat.{◌*◌, ◌-◌, ◌%◌}
-use lib.ListN.{length}
+use Prim.Native.Nat.{◌*◌, ◌%◌}
 use Rattle.theory_lists.proofs.Change.{Changing}
 use Rattle.poly.proofs.arithmetic.scale.Given as goal
 
--- The places before i have their products, and those from i on are as they were. The places that are left fall.
-abbrev pub invariant-loop-i : goal.invariant-loop-i
-invariant-loop-i l = Changing (λ j x. l.c.0 * x % l.md.p) l.initial.a l.a l.i
-
-abbrev pub decreases-loop-i : goal.decreases-loop-i
-decreases-loop-i l = length l.initial.a - l.i
+-- The places before x have their products, and those from x on are as they were.
+abbrev pub invariant-loop-x : goal.invariant-loop-x
+invariant-loop-x l = Changing (λ j x. l.c.0 * x % l.md.p) l.initial.a l.a l.x-index

@@ -1,15 +1,14 @@
+use borrow.Author.Rules.{rules}
 use borrow.Author.Tests.{eqb-true, eq-eqb}
-use native.Mathlib.Omega.{arith}
-use Rattle.poly.proofs.Ending.{gathering-start, gathering-turn}
+use mathlib.Core.Path.{◌≡◌, refl, sym, ◌∙◌}
+use lib.Bits.{bit_or}
+use Rattle.std.specs.List.{fold}
+use Rattle.poly.proofs.Ending.{gathered}
 use Rattle.poly.proofs.polynomial.all_zero.Goals as goal
-
-pub loop-i-init : goal.loop-i-init
-loop-i-init c = gathering-start _
-
-pub loop-i-preserved : goal.loop-i-preserved
-loop-i-preserved c = gathering-turn _ _ _ c.loop-i.invariant (omega arith)
+use Rattle.poly.proofs.polynomial.all_zero.Goals.{Start}
 
 pub returns : goal.returns
 returns c =
-    let inv = c.loop-i.invariant.tells in
-    ((λ t j h. inv.0 (eqb-true _ _ t) j (omega arith)), (λ h. eq-eqb _ _ (inv.1 (λ j l. h j (omega arith)))))
+    let bits : c.fold.result ≡ fold bit_or 0 c.args.a.now = search rules in
+    let said = gathered c.args.a.now 0 in
+    ((λ t. (said.0 (sym bits ∙ eqb-true _ _ t)).1), (λ z. eq-eqb _ _ (bits ∙ said.1 (refl, z))))

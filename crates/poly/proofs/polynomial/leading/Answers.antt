@@ -1,12 +1,12 @@
-use mathlib.Core.Path.{sym, ap, ◌∙◌}
-use Prim.Native.Nat.{ℕ, ◌-◌}
-use lib.ListN.{get_or}
-use Rattle.poly.proofs.Ending.{leading-none}
+use borrow.Author.Rules.{rules}
+use mathlib.Core.Path.{◌≡◌, ◌∙◌}
+use Prim.Native.Nat.{◌-◌}
+use lib.ListN.{length, get_or, take}
+use Rattle.poly.proofs.Ending.{leading-used}
 use Rattle.poly.proofs.polynomial.leading.Goals as goal
-
-pub returns-then-n-eq0 : goal.returns-then-n-eq0
-returns-then-n-eq0 c = sym (leading-none c.args.a.now (sym c.used-n.ensures.0 ∙ c.if-n-eq0.true))
 
 pub returns : goal.returns
 returns c =
-    c.from.ensures ∙ ap (λ (n : ℕ). get_or c.args.a.now (n - 1) 0) c.used-n.ensures.0
+    let left = take c.used.result c.args.a.now in
+    let said : c.map_or.result.0 ≡ get_or left (length left - 1) 0 = search rules in
+    said ∙ rw c.used.ensures.0 (leading-used c.args.a.now)
