@@ -3,7 +3,7 @@ use mathlib.Core.Path.{◌≡◌, refl, sym, ap, ◌∙◌}
 use mathlib.Core.List.{List, [], ◌∷◌}
 use Prim.Native.Nat.{ℕ}
 use lib.ListN.{get_or}
-use Rattle.matrix_refusals.specs.Number.{number_of, place_of, check_number, check_place}
+use Rattle.matrix_refusals.specs.Number.{number_of, place_of, answer_number, answer_place}
 use Rattle.matrix_promises.specs.Answering.{Rule}
 use Rattle.matrix_refusals.specs.Number.{Verdict}
 use Rattle.matrix_promises.specs.Refused.{number_rules, coefficient_rule, matrix_table, determinant_table}
@@ -43,7 +43,7 @@ refusal-unique x y numbers places = said-unique {Outcome = Unit} {refused = λ z
     (said-refused x) (said-refused y) (λ i. (numbers i, places i, tt))
 
 -- what the checks say is an answer too
-check-said : (x : Result Unit Refusal) → Said {Outcome = Unit} Err Ok (check_number x, check_place x, tt) x
+check-said : (x : Result Unit Refusal) → Said {Outcome = Unit} Err Ok (answer_number x, answer_place x, tt) x
 check-said (Ok done) = record { is = refl }
 check-said (Err x) = said-refused x
 
@@ -55,7 +55,7 @@ verdict-unique table decided x y f g =
 
 -- ## The checks: two answers that the promise allows are equal
 
--- of `check_numbers`
+-- of `answer_numbers`
 pub numbers-checked-unique : (p n m d : ℕ) (x y : Result Unit Refusal) → Verdict (number_rules p n m d []) x
     → Verdict (number_rules p n m d []) y → x ≡ y
 numbers-checked-unique p n m d = verdict-unique (number_rules p n m d []) (with-numbers [] tt)

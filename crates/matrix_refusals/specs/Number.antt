@@ -1,4 +1,4 @@
--- The number and the place of each refusal, and of what the checks say, in the refusal tables (file Refused).
+-- The number and the place of each refusal, and of an answer that may be one, in the refusal tables (file Refused).
 use Rattle.std.specs.Prelude.{List, ℕ, ⊤, Result, Ok, Err}
 use Rattle.matrix_promises.specs.Answering.{Rule, Told}
 use Rattle.matrix_refusals.specs.declared.Refusal.{Refusal}
@@ -20,14 +20,15 @@ place_of Square = 0
 place_of (Length k) = k
 place_of (Coefficient i) = i
 
-abbrev pub check_number : Result ⊤ Refusal → ℕ
-check_number (Ok done) = 0
-check_number (Err x) = number_of x
+-- those of an answer, which has an error that is a refusal: both are 0 where it has none
+abbrev pub answer_number : {A : Type 0} → Result A Refusal → ℕ
+answer_number (Ok done) = 0
+answer_number (Err x) = number_of x
 
-abbrev pub check_place : Result ⊤ Refusal → ℕ
-check_place (Ok done) = 0
-check_place (Err x) = place_of x
+abbrev pub answer_place : {A : Type 0} → Result A Refusal → ℕ
+answer_place (Ok done) = 0
+answer_place (Err x) = place_of x
 
 -- what checks say, by the rules that they look at
 abbrev pub Verdict : (table : List Rule) → Result ⊤ Refusal → Type 0
-Verdict table c = Told table (check_number c) (check_place c)
+Verdict table c = Told table (answer_number c) (answer_place c)
