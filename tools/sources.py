@@ -14,6 +14,7 @@ TOP = Path(__file__).resolve().parent.parent
 CRATES = TOP / "crates"
 
 FUNCTION = re.compile(r'(\s*)(pub |pub\(crate\) )?(?:extern "C" )?fn (\w+)')
+IMPL = re.compile(r"impl(?:<[^{]*?>)? (?:(\w.*) for )?(\w+)")
 CLAUSE = re.compile(r"(requires|ensures)(?: [\w-]+)? \{")
 
 
@@ -23,9 +24,9 @@ class Function(NamedTuple):
     path: str  # as the crate itself names it: `module::Type::function`
     public: bool  # whether `pub` stands before it; see public_functions
     head: list  # its lines, stripped, up to the one that opens its body
-    start: int  # the numbers, from 1, of the first line, of the line that opens the body, and of the last one
-    body: int
-    end: int
+    start: int  # the number, counted from 1, of its first line, which may be an attribute
+    body: int  # of the line that opens its body
+    end: int  # and of its last line
 
     def clauses(self, word):
         """The texts of its clauses of one kind, `requires` or `ensures`, named or not."""
@@ -67,20 +68,27 @@ def module_of(file):
     return [] if parts in (("lib",), ("main",)) else list(parts)
 
 
+def owner_of(trait, kind):
+    """What the prover calls an `impl`: its type, and after it the trait with what it is given, as `ReplyFromU64`."""
+    words = re.findall(r"\w+|\(\)", re.sub(r"'\w+|\w+::", "", trait or ""))
+    return kind + "".join("Unit" if word == "()" else word[0].upper() + word[1:] for word in words)
+
+
 def functions_of(crate, file, folder=None):
     """The functions of a source. `folder` has it where it is not the crate's own, as the copy of an edit."""
-    owner, start, head = "", None, []
+    owner, first, start, head = "", None, None, []
     for number, line in enumerate(((folder or CRATES / crate) / file).read_text().splitlines(), 1):
-        if found := re.match(r"impl (\w+)", line):
-            owner = found[1]
+        if found := IMPL.match(line):
+            owner = owner_of(*found.groups())
         elif line == "}" and start is None:
             owner = ""
         if start is None and (found := FUNCTION.match(line)):
             indent, visible, name = found.groups()
-            start, body, head = number, None, []
+            start, body, head = first or number, None, []
         if start is not None and body is None:
             head.append(line.strip())
             body = number if line.endswith("{") else None
+        first = (first or number) if line.lstrip().startswith("#[") else None
         if start is not None and line == indent + "}":
             path = [*module_of(file), *([owner] if indent else []), name]
             yield Function(crate, file, "::".join(path), visible == "pub ", head, start, body, number)
