@@ -16,7 +16,7 @@ TOP = Path(__file__).resolve().parent.parent
 CRATES = TOP / "crates"
 
 FUNCTION = re.compile(r'(\s*)(pub |pub\(crate\) )?(?:extern "C" )?fn (\w+)')
-IMPL = re.compile(r"impl (?:(\w+)(?:<(\w+)>)? for )?(\w+)")
+IMPL = re.compile(r"impl(?:<[^{]*?>)? (?:(\w.*) for )?(\w+)")
 MEMBER = re.compile(r"\s+ghost \w+ = (\{.*\});")
 CLAUSE = re.compile(r"(requires|ensures)(?: [\w-]+)? \{")
 
@@ -27,9 +27,9 @@ class Function(NamedTuple):
     path: str  # as the crate itself names it: `module::Type::function`
     public: bool  # whether `pub` stands before it; see public_functions
     head: list  # its lines, stripped, up to the one that opens its body
-    start: int  # the numbers, from 1, of the first line, of the line that opens the body, and of the last one
-    body: int
-    end: int
+    start: int  # the number, counted from 1, of its first line, which may be an attribute
+    body: int  # of the line that opens its body
+    end: int  # and of its last line
 
     def clauses(self, word):
         """The texts of its clauses of one kind, `requires` or `ensures`, named or not."""
@@ -71,24 +71,31 @@ def module_of(file):
     return [] if parts in (("lib",), ("main",)) else list(parts)
 
 
+def owner_of(trait, kind):
+    """What the prover calls an `impl`: its type, and after it the trait with what it is given, as `ReplyFromU64`."""
+    words = re.findall(r"\w+|\(\)", re.sub(r"'\w+|\w+::", "", trait or ""))
+    return kind + "".join("Unit" if word == "()" else word[0].upper() + word[1:] for word in words)
+
+
 def functions_of(crate, file, folder=None):
     """The functions of a source. `folder` has it where it is not the crate's own, as the copy of an edit."""
-    owner, promise, start, head = "", "", None, []
+    owner, promise, first, start, head = "", "", None, None, []
     for number, line in enumerate(((folder or CRATES / crate) / file).read_text().splitlines(), 1):
         if found := IMPL.match(line):
-            owner, promise = "".join(word[0].upper() + word[1:] for word in (found[3], found[1], found[2]) if word), ""
+            owner, promise = owner_of(*found.groups()), ""
         elif found := MEMBER.match(line):
             promise = found[1]
         elif line == "}" and start is None:
             owner, promise = "", ""
         if start is None and (found := FUNCTION.match(line)):
             indent, visible, name = found.groups()
-            start, body, head = number, None, []
+            start, body, head = first or number, None, []
         if start is not None and body is None:
             head.append(line.strip())
             body = number if line.endswith("{") else None
             if body and promise:
                 head.append(f"ensures {promise}")
+        first = (first or number) if line.lstrip().startswith("#[") else None
         if start is not None and line == indent + "}":
             path = [*module_of(file), *([owner] if indent else []), name]
             yield Function(crate, file, "::".join(path), visible == "pub " or bool(promise), head, start, body, number)

@@ -1,5 +1,9 @@
 -- What is promised of the reduction of R alone: that of a service whose calls are refused as those of the single step.
-use Rattle.std.specs.Prelude.{List, ℕ, ◌+◌}
+use Rattle.std.specs.Prelude.{List, ℕ, ◌+◌, Result}
+use Rattle.std.specs.Result.{result_unwrap_or}
+use Rattle.matrix_refusals.specs.Number.{answer_number, answer_place}
+use Rattle.matrix_refusals.specs.declared.Refusal.{Refusal}
+use Rattle.matrix_reduction.specs.declared.Reached.{Reached}
 use Rattle.matrix_promises.specs.Refused.{step_sizes, matrix_table}
 use Rattle.matrix_promises.specs.Service.{Service, Promise}
 use Rattle.matrix_promises.specs.Services.{ShortCall, short_lengths}
@@ -21,6 +25,12 @@ alone = record {
   kept = λ c. record { rank = 0; count = 0; r = c.r };
   Done = λ c x. IsReducedAlone c.p c.n c.m (c.d + 1) c.a x.r x.rank x.count;
 }
+
+-- the reply that tells an answer has its numbers: "Rank and counts in a refusal are 0"
+abbrev pub reply_of : Result Reached Refusal → AloneReply
+reply_of x =
+    let s = result_unwrap_or x (record { rank = 0; count = 0 }) in
+    record { number = answer_number x; place = answer_place x; rank = s.rank; count = s.count }
 
 -- the promise, of a reply and of what the result holds at exit
 abbrev pub AloneReplied : (call : ShortCall) (r : List ℕ) → AloneReply → Type 0

@@ -1,9 +1,11 @@
 // The reduction of R alone, for a C program to compare and to time (bench/matrix.c).
 #![tactic(auto)]
 
-ghost use Rattle.matrix_bench.specs.Alone.{AloneReplied};
+ghost use Rattle.std.specs.Prelude.{◌≡◌};
+ghost use Rattle.matrix_bench.specs.Alone.{reply_of, AloneReplied};
 
-use matrix_refusals::{Check, checks};
+use matrix_reduction::Reached;
+use matrix_refusals::{Refusal, checks};
 use poly::{Modulus, arithmetic};
 
 #[repr(C)]
@@ -15,7 +17,37 @@ pub struct AloneReply {
     pub count: u64,
 }
 
+impl From<Result<Reached, Refusal>> for AloneReply {
+    ghost from_gives = { λ x reply. reply ≡ reply_of x };
+
+    fn from(x: Result<Reached, Refusal>) -> AloneReply {
+        match x {
+            Ok(x) => AloneReply {
+                number: 0,
+                place: 0,
+                rank: x.rank,
+                count: x.count,
+            },
+            Err(x) => AloneReply {
+                number: x.number(),
+                place: x.place(),
+                rank: 0,
+                count: 0,
+            },
+        }
+    }
+}
+
 // R alone: refused as the single step is, or the weak Popov form of the matrix in a, in r.
+fn alone(p: u32, n: usize, m: usize, d: usize, a: &[u16], r: &mut [u16]) -> Result<Reached, Refusal>
+    ensures { AloneReplied (record { p = p; n = n; m = m; d = d; a = a.now; r = r.old }) r.new (reply_of result) }
+{
+    checks::check_step(p, n, m, d, a, r.len())?;
+    arithmetic::copy(a, r);
+    Ok(matrix_reduction::run_alone(r, n, m, d + 1, Modulus::of(p)))
+}
+
+// The same for C: the reply has numbers only, and parameters stand one by one.
 #[unsafe(no_mangle)]
 pub extern "C" fn matrix_bench_alone(
     p: u32,
@@ -27,20 +59,5 @@ pub extern "C" fn matrix_bench_alone(
 ) -> AloneReply
     ensures { AloneReplied (record { p = p; n = n; m = m; d = d; a = a.now; r = r.old }) r.new result }
 {
-    if let Check::Refused(x) = checks::check_step(p, n, m, d, a, r.len()) {
-        return AloneReply {
-            number: matrix_refusals::table_number(x),
-            place: matrix_refusals::table_place(x),
-            rank: 0,
-            count: 0,
-        };
-    }
-    arithmetic::copy(a, r);
-    let x = matrix_reduction::run_alone(r, n, m, d + 1, Modulus::of(p));
-    AloneReply {
-        number: 0,
-        place: 0,
-        rank: x.rank,
-        count: x.count,
-    }
+    AloneReply::from(alone(p, n, m, d, a, r))
 }

@@ -1,34 +1,35 @@
 -- What a reply says to a program in C.
-use Rattle.std.specs.Prelude.{◌≡◌, List, ℕ}
+use Rattle.std.specs.Prelude.{◌≡◌, List, ℕ, ⊤, Result}
+use Rattle.std.specs.Result.{result_unwrap_or}
 use Rattle.matrix_promises.specs.Service.{Promise}
 use Rattle.matrix_promises.specs.Services.{WholeCall, ShortCall, reduction, single_step, popov_form, determinant}
-use Rattle.matrix.specs.Reduction.{numbers_of}
-use Rattle.matrix.specs.SingleStep.{step_numbers_of}
-use Rattle.matrix.specs.PopovForm.{popov_numbers_of}
-use Rattle.matrix.specs.Determinant.{determinant_numbers_of}
-use Rattle.matrix.specs.declared.reduction.Answer.{Answer}
-use Rattle.matrix.specs.declared.single_step.StepAnswer.{StepAnswer}
-use Rattle.matrix.specs.declared.popov_form.PopovAnswer.{PopovAnswer}
-use Rattle.matrix.specs.declared.determinant.DeterminantAnswer.{DeterminantAnswer}
+use Rattle.matrix_refusals.specs.Number.{answer_number, answer_place}
+use Rattle.matrix_refusals.specs.declared.Refusal.{Refusal}
+use Rattle.matrix.specs.declared.reduction.Reduction.{Reduction}
+use Rattle.matrix.specs.declared.popov_form.PopovCounts.{PopovCounts}
 use Rattle.moorbesen.specs.declared.Reply.{Reply}
 use Rattle.moorbesen.specs.declared.PopovReply.{PopovReply}
 use Rattle.moorbesen.specs.declared.DeterminantReply.{DeterminantReply}
 
 -- the reply that tells an answer of the reduction has its numbers: "Rank and counts in a refusal are 0, the row list is empty"
-abbrev pub reply_of : Answer → Reply
-reply_of x = let s = numbers_of x in record { number = s.0; place = s.1; rank = s.2; count = s.3; rows = s.4 }
+abbrev pub reply_of : Result Reduction Refusal → Reply
+reply_of x =
+    let s = result_unwrap_or x (record { rank = 0; count = 0; rows = 0 }) in
+    record { number = answer_number x; place = answer_place x; rank = s.rank; count = s.count; rows = s.rows }
 
 -- that of the single step, which has neither rank nor list of rows
-abbrev pub step_reply_of : StepAnswer → Reply
-step_reply_of x = let s = step_numbers_of x in record { number = s.0; place = s.1; rank = 0; count = s.2; rows = 0 }
+abbrev pub step_reply_of : Result ℕ Refusal → Reply
+step_reply_of x = record { number = answer_number x; place = answer_place x; rank = 0; count = result_unwrap_or x 0; rows = 0 }
 
 -- that of the Popov form
-abbrev pub popov_reply_of : PopovAnswer → PopovReply
-popov_reply_of x = let s = popov_numbers_of x in record { number = s.0; place = s.1; rank = s.2; first = s.3; second = s.4 }
+abbrev pub popov_reply_of : Result PopovCounts Refusal → PopovReply
+popov_reply_of x =
+    let s = result_unwrap_or x (record { rank = 0; first = 0; second = 0 }) in
+    record { number = answer_number x; place = answer_place x; rank = s.rank; first = s.first; second = s.second }
 
 -- and that of the determinant
-abbrev pub determinant_reply_of : DeterminantAnswer → DeterminantReply
-determinant_reply_of x = let s = determinant_numbers_of x in record { number = s.0; place = s.1 }
+abbrev pub determinant_reply_of : Result ⊤ Refusal → DeterminantReply
+determinant_reply_of x = record { number = answer_number x; place = answer_place x }
 
 -- the promise of the reduction, of a reply and of what result, U and V hold at exit
 abbrev pub Replied : (call : WholeCall) (r u v : List ℕ) → Reply → Type 0

@@ -1,14 +1,14 @@
 // The services for programs in C: each forwards to the matrix crate and tells the answer by its numbers.
+// Names, parameters and replies are those of moorbesen.h, so they stand one by one, and a refusal is a number here.
 #![tactic(auto)]
 
 ghost use Rattle.std.specs.Prelude.{◌≡◌};
 ghost use Rattle.moorbesen.specs.Reply.{reply_of, step_reply_of, popov_reply_of, determinant_reply_of, Replied, StepReplied, PopovReplied, DeterminantReplied};
 
-use matrix::determinant::DeterminantAnswer;
-use matrix::popov_form::PopovAnswer;
-use matrix::reduction::Answer;
-use matrix::single_step::StepAnswer;
+use matrix::popov_form::PopovCounts;
+use matrix::reduction::Reduction;
 use matrix::{determinant, popov_form, reduction, single_step};
+use matrix_refusals::Refusal;
 
 // In `rows`, bit i - 1 stands for row i.
 #[repr(C)]
@@ -21,24 +21,26 @@ pub struct Reply {
     pub rows: usize,
 }
 
-fn tell(x: Answer) -> Reply
-    ensures { result ≡ reply_of x }
-{
-    match x {
-        Answer::NotDone(x) => Reply {
-            number: matrix_refusals::table_number(x),
-            place: matrix_refusals::table_place(x),
-            rank: 0,
-            count: 0,
-            rows: 0,
-        },
-        Answer::Done { rank, count, rows } => Reply {
-            number: 0,
-            place: 0,
-            rank,
-            count,
-            rows,
-        },
+impl From<Result<Reduction, Refusal>> for Reply {
+    ghost from_gives = { λ x reply. reply ≡ reply_of x };
+
+    fn from(x: Result<Reduction, Refusal>) -> Reply {
+        match x {
+            Ok(x) => Reply {
+                number: 0,
+                place: 0,
+                rank: x.rank,
+                count: x.count,
+                rows: x.rows,
+            },
+            Err(x) => Reply {
+                number: x.number(),
+                place: x.place(),
+                rank: 0,
+                count: 0,
+                rows: 0,
+            },
+        }
     }
 }
 
@@ -55,20 +57,19 @@ pub extern "C" fn moorbesen_reduce(
 ) -> Reply
     ensures { Replied (record { p = p; n = n; m = m; d = d; a = a.now; r = r.old; u = u.old; v = v.old }) r.new u.new v.new result }
 {
-    tell(reduction::reduce(p, n, m, d, a, r, u, v))
+    Reply::from(reduction::reduce(p, n, m, d, a, r, u, v))
 }
 
 // A single step has no rank and no list of rows: both are 0.
-fn tell_step(x: StepAnswer) -> Reply
-    ensures { result ≡ step_reply_of x }
-{
-    match x {
-        StepAnswer::NotDone(x) => tell(Answer::NotDone(x)),
-        StepAnswer::Done(count) => tell(Answer::Done {
+impl From<Result<u64, Refusal>> for Reply {
+    ghost from_gives = { λ x reply. reply ≡ step_reply_of x };
+
+    fn from(x: Result<u64, Refusal>) -> Reply {
+        Reply::from(x.map(|count| Reduction {
             rank: 0,
             count,
             rows: 0,
-        }),
+        }))
     }
 }
 
@@ -83,7 +84,7 @@ pub extern "C" fn moorbesen_step(
 ) -> Reply
     ensures { StepReplied (record { p = p; n = n; m = m; d = d; a = a.now; r = r.old }) r.new result }
 {
-    tell_step(single_step::step(p, n, m, d, a, r))
+    Reply::from(single_step::step(p, n, m, d, a, r))
 }
 
 // The two counts are those of the first and of the second kind.
@@ -97,28 +98,26 @@ pub struct PopovReply {
     pub second: u64,
 }
 
-fn tell_popov(x: PopovAnswer) -> PopovReply
-    ensures { result ≡ popov_reply_of x }
-{
-    match x {
-        PopovAnswer::NotDone(x) => PopovReply {
-            number: matrix_refusals::table_number(x),
-            place: matrix_refusals::table_place(x),
-            rank: 0,
-            first: 0,
-            second: 0,
-        },
-        PopovAnswer::Done {
-            rank,
-            first,
-            second,
-        } => PopovReply {
-            number: 0,
-            place: 0,
-            rank,
-            first,
-            second,
-        },
+impl From<Result<PopovCounts, Refusal>> for PopovReply {
+    ghost from_gives = { λ x reply. reply ≡ popov_reply_of x };
+
+    fn from(x: Result<PopovCounts, Refusal>) -> PopovReply {
+        match x {
+            Ok(x) => PopovReply {
+                number: 0,
+                place: 0,
+                rank: x.rank,
+                first: x.first,
+                second: x.second,
+            },
+            Err(x) => PopovReply {
+                number: x.number(),
+                place: x.place(),
+                rank: 0,
+                first: 0,
+                second: 0,
+            },
+        }
     }
 }
 
@@ -135,7 +134,7 @@ pub extern "C" fn moorbesen_popov(
 ) -> PopovReply
     ensures { PopovReplied (record { p = p; n = n; m = m; d = d; a = a.now; r = r.old; u = u.old; v = v.old }) r.new u.new v.new result }
 {
-    tell_popov(popov_form::form(p, n, m, d, a, r, u, v))
+    PopovReply::from(popov_form::form(p, n, m, d, a, r, u, v))
 }
 
 #[repr(C)]
@@ -145,18 +144,20 @@ pub struct DeterminantReply {
     pub place: usize,
 }
 
-fn tell_determinant(x: DeterminantAnswer) -> DeterminantReply
-    ensures { result ≡ determinant_reply_of x }
-{
-    match x {
-        DeterminantAnswer::NotDone(x) => DeterminantReply {
-            number: matrix_refusals::table_number(x),
-            place: matrix_refusals::table_place(x),
-        },
-        DeterminantAnswer::Done => DeterminantReply {
-            number: 0,
-            place: 0,
-        },
+impl From<Result<(), Refusal>> for DeterminantReply {
+    ghost from_gives = { λ x reply. reply ≡ determinant_reply_of x };
+
+    fn from(x: Result<(), Refusal>) -> DeterminantReply {
+        match x {
+            Ok(()) => DeterminantReply {
+                number: 0,
+                place: 0,
+            },
+            Err(x) => DeterminantReply {
+                number: x.number(),
+                place: x.place(),
+            },
+        }
     }
 }
 
@@ -171,5 +172,5 @@ pub extern "C" fn moorbesen_determinant(
 ) -> DeterminantReply
     ensures { DeterminantReplied (record { p = p; n = n; m = m; d = d; a = a.now; r = r.old }) r.new result }
 {
-    tell_determinant(determinant::determinant(p, n, m, d, a, r))
+    DeterminantReply::from(determinant::determinant(p, n, m, d, a, r))
 }

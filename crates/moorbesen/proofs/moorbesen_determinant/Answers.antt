@@ -1,4 +1,0 @@
-use Rattle.moorbesen.proofs.moorbesen_determinant.Goals as goal
-
-pub returns : goal.returns
-returns c = rw c.tell_determinant.ensures c.determinant.ensures
