@@ -1,19 +1,13 @@
 -- The laws of lines: how a reader goes on, number by number and line by line.
-use Prim.Native.Nat.{ℕ, zero, suc}
+use Prim.Native.Nat.{ℕ, suc}
 use mathlib.Core.Path.{◌≡◌, refl, ap}
 use mathlib.Core.Bool.{true, false}
-use mathlib.Core.Logic.{◌≢◌}
 use mathlib.Core.List.{List, [], ◌∷◌, ◌++◌, append_assoc}
 use lib.ListN.{length, drop}
 use Rattle.printer_format.specs.Number.{Got, got, bad, number}
 use Rattle.printer_format.specs.Line.{mark, starts_with, prefixed, numbers, read_line, Lines, read, wrong, behind, read_lines}
 
 -- ## Numbers
-
--- the mark is a space where further numbers are left
-pub mark-more : (left : ℕ) → left ≢ 0 → mark left ≡ 32
-mark-more zero h = absurd (h refl)
-mark-more (suc left) h = refl
 
 pub prefixed-nil : (g : Got (List ℕ)) → prefixed [] g ≡ g
 prefixed-nil (got l s) = refl

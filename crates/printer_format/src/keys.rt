@@ -1,25 +1,26 @@
 // The keys of the lines, each a fixed byte string that is compared on reading and written by the printer.
 ghost use Rattle.std.specs.Prelude.{◌≡◌, ◌+◌, ◌<◌};
 ghost use Rattle.printer_format.specs.Line.{cell_key};
+ghost use Rattle.printer_format.specs.Number.{digit};
 ghost use Rattle.printer_format.specs.keys.Cell.{CellAsked};
 
-pub const MODULUS: [u8; 2] = *b"p=";
+pub const MODULUS: &[u8] = b"p=";
 
-pub const ROWS: [u8; 2] = *b"n=";
+pub const ROWS: &[u8] = b"n=";
 
-pub const COLUMNS: [u8; 2] = *b"m=";
+pub const COLUMNS: &[u8] = b"m=";
 
-pub const DEGREE: [u8; 2] = *b"d=";
+pub const DEGREE: &[u8] = b"d=";
 
-pub const ANSWER: [u8; 7] = *b"answer=";
+pub const ANSWER: &[u8] = b"answer=";
 
-pub const PLACE: [u8; 6] = *b"place=";
+pub const PLACE: &[u8] = b"place=";
 
-pub const RANK: [u8; 5] = *b"rank=";
+pub const RANK: &[u8] = b"rank=";
 
-pub const STEPS: [u8; 6] = *b"steps=";
+pub const STEPS: &[u8] = b"steps=";
 
-pub const DETERMINANT: [u8; 4] = *b"det=";
+pub const DETERMINANT: &[u8] = b"det=";
 
 // Of the first cell of the matrix that is read, and of the result.
 pub const INPUT: [u8; 4] = *b"a11=";
@@ -34,15 +35,15 @@ pub fn key_of_cell(first: [u8; 4], m: usize, c: usize) -> [u8; 4]
     let i = c / m;
     let j = c % m;
     let mut key = first;
-    key[1] = numeral(i);
-    key[2] = numeral(j);
+    key[1] = numeral(i + 1);
+    key[2] = numeral(j + 1);
     key
 }
 
-// The digit of a row or a column, counted from 1.
-fn numeral(i: usize) -> u8
-    requires { i < 8 }
-    ensures { result ≡ 48 + (i + 1) }
+// The byte of a digit.
+pub fn numeral(v: usize) -> u8
+    requires { v < 10 }
+    ensures { result ≡ digit v }
 {
-    b'1' + (i as u8)
+    b'0' + (v as u8)
 }

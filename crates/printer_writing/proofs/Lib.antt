@@ -1,3 +1,1 @@
-pub mod Writing
-pub mod Digits
-pub mod Turns
+pub mod Texts

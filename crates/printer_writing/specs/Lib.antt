@@ -1,2 +1,2 @@
-pub mod Wrote
+pub mod Page
 pub mod Asked

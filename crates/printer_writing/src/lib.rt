@@ -1,52 +1,53 @@
-// Writing at an index of lent room. Each function returns the index after what it wrote.
+// The printer's texts. Each function puts its text behind what stands on a page.
 #![tactic(auto)]
 
-ghost use Rattle.std.specs.Prelude.{◌≡◌, [], ◌∷◌, ◌++◌, ◌<◌};
-ghost use Rattle.printer_format.specs.Number.{digit, decimal};
+ghost use Rattle.std.specs.Prelude.{◌≡◌, [], ◌∷◌, ◌++◌};
+ghost use Rattle.arrayvec.specs.ArrayVec.{Extends};
+ghost use Rattle.printer_format.specs.Number.{decimal};
 ghost use Rattle.printer_format.specs.Line.{mark, row, line};
 ghost use Rattle.printer_format.specs.Answer.{refusal_text, counts_text, result_text, determinant_text, answer_text};
-ghost use Rattle.printer_writing.specs.Wrote.{Wrote, Room};
+ghost use Rattle.printer_writing.specs.Page.{Fits};
 ghost use Rattle.printer_writing.specs.Asked.{ResultAsked, AnswerAsked};
 
+use arrayvec::ArrayVec;
 use printer_format::keys;
 
-fn put_byte(out: &mut [u8], at: usize, b: u8) -> usize
-    requires { Room out.old at (b ∷ []) }
-    ensures { Wrote out.old at (b ∷ []) result out.new }
-{
-    out[at] = b;
-    at + 1
+// Room for every answer.
+pub const OUTPUT: usize = 27928;
+
+// What is written so far.
+pub type Page = ArrayVec<u8, OUTPUT>;
+
+// What is printed where nothing is refused: the counts, and R with d+1 numbers for each cell of an n by m matrix. The determinant is
+// not looked at where n and m differ.
+#[derive(Clone, Copy)]
+pub struct Answer<'a> {
+    pub rank: usize,
+    pub steps: usize,
+    pub n: usize,
+    pub m: usize,
+    pub d: usize,
+    pub r: &'a [u16],
+    pub det: &'a [u16],
 }
 
-fn put_bytes(out: &mut [u8], at: usize, w: &[u8]) -> usize
-    requires { Room out.old at w.now }
-    ensures { Wrote out.old at w.now result out.new }
+fn put_bytes(page: &mut Page, w: &[u8])
+    requires { Fits page.old w.now }
+    ensures { Extends page.old w.now page.new }
 {
-    let mut k = 0;
-    while k < w.len() {
-        out[at + k] = w[k];
-        k += 1;
-    }
-    at + k
-}
-
-fn numeral_of(x: usize) -> u8
-    requires { x < 10 }
-    ensures { result ≡ digit x }
-{
-    b'0' + (x as u8)
+    // What fits is not turned down.
+    let _ = page.try_extend_from_slice(w);
 }
 
 // A number in decimal: the last digit comes after those of a tenth of it.
-fn put_number(out: &mut [u8], at: usize, v: usize) -> usize
-    requires { Room out.old at (decimal v) }
-    ensures { Wrote out.old at (decimal v) result out.new }
+fn put_number(page: &mut Page, v: usize)
+    requires { Fits page.old (decimal v) }
+    ensures { Extends page.old (decimal v) page.new }
 {
-    if v < 10 {
-        return put_byte(out, at, numeral_of(v));
+    if 10 <= v {
+        put_number(page, v / 10);
     }
-    let i = put_number(out, at, v / 10);
-    put_byte(out, i, numeral_of(v % 10))
+    page.push(keys::numeral(v % 10));
 }
 
 // What follows a number where further numbers are left.
@@ -56,118 +57,99 @@ fn space_or_feed(left: usize) -> u8
     if left == 0 { b'\n' } else { b' ' }
 }
 
-fn wide(x: u16) -> usize
-    ensures { result ≡ x }
-{
-    x as usize
-}
-
 // A number and its mark.
-fn put_marked(out: &mut [u8], at: usize, v: usize, left: usize) -> usize
-    requires { Room out.old at (decimal v ++ (mark left ∷ [])) }
-    ensures { Wrote out.old at (decimal v ++ (mark left ∷ [])) result out.new }
+fn put_marked(page: &mut Page, v: usize, left: usize)
+    requires { Fits page.old (decimal v ++ mark left ∷ []) }
+    ensures { Extends page.old (decimal v ++ mark left ∷ []) page.new }
 {
-    let i = put_number(out, at, v);
-    put_byte(out, i, space_or_feed(left))
+    put_number(page, v);
+    page.push(space_or_feed(left));
 }
 
 // Numbers, each with its mark.
-fn put_row(out: &mut [u8], at: usize, l: &[u16]) -> usize
-    requires { Room out.old at (row l.now) }
-    ensures { Wrote out.old at (row l.now) result out.new }
+fn put_row(page: &mut Page, l: &[u16])
+    requires { Fits page.old (row l.now) }
+    ensures { Extends page.old (row l.now) page.new }
 {
-    let mut i = at;
-    let mut k = 0;
-    while k < l.len() {
-        i = put_marked(out, i, wide(l[k]), l.len() - k - 1);
-        k += 1;
+    for (k, v) in l.iter().enumerate() {
+        put_marked(page, usize::from(*v), l.len() - k - 1);
     }
-    i
 }
 
 // A line: its key, and then its numbers.
-fn put_line(out: &mut [u8], at: usize, key: &[u8], l: &[u16]) -> usize
-    requires { Room out.old at (line key.now l.now) }
-    ensures { Wrote out.old at (line key.now l.now) result out.new }
+fn put_line(page: &mut Page, key: &[u8], l: &[u16])
+    requires { Fits page.old (line key.now l.now) }
+    ensures { Extends page.old (line key.now l.now) page.new }
 {
-    let i = put_bytes(out, at, key);
-    put_row(out, i, l)
+    put_bytes(page, key);
+    put_row(page, l);
 }
 
 // A line with one number.
-fn put_field(out: &mut [u8], at: usize, key: &[u8], v: usize) -> usize
-    requires { Room out.old at (line key.now (v ∷ [])) }
-    ensures { Wrote out.old at (line key.now (v ∷ [])) result out.new }
+#[tactic(auto, unfolding(printer_format::specs::Line::row))]
+fn put_field(page: &mut Page, key: &[u8], v: usize)
+    requires { Fits page.old (line key.now (v ∷ [])) }
+    ensures { Extends page.old (line key.now (v ∷ [])) page.new }
 {
-    let i = put_bytes(out, at, key);
-    put_marked(out, i, v, 0)
+    put_bytes(page, key);
+    put_marked(page, v, 0);
 }
 
 // The lines of the result, one for each cell.
-fn put_result(out: &mut [u8], at: usize, n: usize, m: usize, d: usize, r: &[u16]) -> usize
-    requires { ResultAsked out.old at n m d r.now }
-    ensures { Wrote out.old at (result_text n m d r.now) result out.new }
+fn put_result(page: &mut Page, n: usize, m: usize, d: usize, r: &[u16])
+    requires { ResultAsked page.old n m d r.now }
+    ensures { Extends page.old (result_text n m d r.now) page.new }
 {
-    let count = n * m;
     let width = d + 1;
-    let mut i = at;
-    let mut c = 0;
-    let mut a = 0;
-    while c < count {
-        let key = keys::key_of_cell(keys::RESULT, m, c);
-        let e = a + width;
-        i = put_line(out, i, &key, &r[a..e]);
-        c += 1;
-        a = e;
+    for (c, cell) in r[..n * m * width].chunks(width).enumerate() {
+        put_line(page, &keys::key_of_cell(keys::RESULT, m, c), cell);
     }
-    i
 }
 
 // "A refusal prints two lines and nothing else."
-pub fn put_refusal(out: &mut [u8], number: usize, place: usize) -> usize
-    requires { Room out.old 0 (refusal_text number place) }
-    ensures { Wrote out.old 0 (refusal_text number place) result out.new }
+pub fn put_refusal(page: &mut Page, number: usize, place: usize)
+    requires { Fits page.old (refusal_text number place) }
+    ensures { Extends page.old (refusal_text number place) page.new }
 {
-    let i = put_field(out, 0, &keys::ANSWER, number);
-    put_field(out, i, &keys::PLACE, place)
+    put_field(page, keys::ANSWER, number);
+    put_field(page, keys::PLACE, place);
 }
 
 // The lines before those of the result.
-fn put_counts(out: &mut [u8], rank: usize, steps: usize) -> usize
-    requires { Room out.old 0 (counts_text rank steps) }
-    ensures { Wrote out.old 0 (counts_text rank steps) result out.new }
+fn put_counts(page: &mut Page, rank: usize, steps: usize)
+    requires { Fits page.old (counts_text rank steps) }
+    ensures { Extends page.old (counts_text rank steps) page.new }
 {
-    let i = put_field(out, 0, &keys::ANSWER, 0);
-    let j = put_field(out, i, &keys::RANK, rank);
-    put_field(out, j, &keys::STEPS, steps)
+    put_field(page, keys::ANSWER, 0);
+    put_field(page, keys::RANK, rank);
+    put_field(page, keys::STEPS, steps);
 }
 
 // "`det=` stands only where n equals m."
-fn put_determinant(out: &mut [u8], at: usize, n: usize, m: usize, det: &[u16]) -> usize
-    requires { Room out.old at (determinant_text n m det.now) }
-    ensures { Wrote out.old at (determinant_text n m det.now) result out.new }
+fn put_determinant(page: &mut Page, n: usize, m: usize, det: &[u16])
+    requires { Fits page.old (determinant_text n m det.now) }
+    ensures { Extends page.old (determinant_text n m det.now) page.new }
 {
-    if n != m {
-        return at;
+    if n == m {
+        put_line(page, keys::DETERMINANT, det);
     }
-    put_line(out, at, &keys::DETERMINANT, det)
 }
 
-// The lines of an answer where nothing is refused; det is not looked at where n and m differ.
-pub fn put_answer(
-    out: &mut [u8],
-    rank: usize,
-    steps: usize,
-    n: usize,
-    m: usize,
-    d: usize,
-    r: &[u16],
-    det: &[u16],
-) -> usize
-    requires { AnswerAsked out.old rank steps n m d r.now det.now }
-    ensures { Wrote out.old 0 (answer_text rank steps n m d r.now det.now) result out.new }
+// The lines of an answer where nothing is refused.
+pub fn put_answer(page: &mut Page, answer: &Answer)
+    requires { AnswerAsked page.old answer.now.rank answer.now.steps answer.now.n answer.now.m answer.now.d answer.now.r.now answer.now.det.now }
+    ensures { Extends page.old (answer_text answer.now.rank answer.now.steps answer.now.n answer.now.m answer.now.d answer.now.r.now answer.now.det.now) page.new }
 {
-    let i = put_counts(out, rank, steps);
-    let j = put_result(out, i, n, m, d, r);
-    put_determinant(out, j, n, m, det)
+    let Answer {
+        rank,
+        steps,
+        n,
+        m,
+        d,
+        r,
+        det,
+    } = *answer;
+    put_counts(page, rank, steps);
+    put_result(page, n, m, d, r);
+    put_determinant(page, n, m, det);
 }
