@@ -74,7 +74,7 @@ def module_of(file):
 def owner_of(trait, kind):
     """What the prover calls an `impl`: its type, and after it the trait with what it is given, as `ReplyFromU64`."""
     words = re.findall(r"\w+|\(\)", re.sub(r"'\w+|\w+::", "", trait or ""))
-    return kind + "".join("Unit" if word == "()" else word[0].upper() + word[1:] for word in words)
+    return kind[0].upper() + kind[1:] + "".join("Unit" if word == "()" else word[0].upper() + word[1:] for word in words)
 
 
 def functions_of(crate, file, folder=None):
