@@ -120,7 +120,8 @@ module _ {p n m w rank : ℕ} {P : Prime p} {A : ℕ → Row (Zp p)} {r u v : Li
     }
 
     -- it is a step on all first rows among which row k is
-    pub removal-on : {k' c : ℕ} {t' : Carried (Zp p)} → k < k' → SecondRuns K k' m w c (remove K m w t removal) t' → SecondRuns K k' m w (suc c) t t'
+    pub removal-on : {k' c : ℕ} {t' : Carried (Zp p)} → k < k' → SecondRuns K k' m w c (remove K m w t removal) t'
+        → SecondRuns K k' m w (suc c) t t'
     unfolding removal
     removal-on l q = step_then K m w t removal l q
 

@@ -24,9 +24,9 @@ overflow_add-count c =
 pub loop-x-smaller : goal.loop-x-smaller
 loop-x-smaller c =
     clearing-falls c.requires c.loop-x.invariant c.in-Some.ensures
-    {r₂ = c.remove.new.r} {u₂ = c.remove.new.u} {v₂ = c.remove.new.v} c.remove.ensures
+    c.remove.ensures
 
 pub loop-x-preserved : goal.loop-x-preserved
 loop-x-preserved c =
     clearing-more c.requires c.loop-x.invariant c.in-Some.ensures
-    {r₂ = c.remove.new.r} {u₂ = c.remove.new.u} {v₂ = c.remove.new.v} c.remove.ensures
+    c.remove.ensures
