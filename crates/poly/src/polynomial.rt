@@ -3,6 +3,7 @@ ghost use Rattle.std.specs.Prelude.{◌≡◌, true, ◌↔◌, ℕ, ◌<◌, �
 ghost use Rattle.poly.specs.Polynomial.{degree_of, used_places, leading_of, SamePolynomial};
 
 use crate::residues::Residue;
+use std::fmt;
 
 // The degree of a polynomial, -1 for zero.
 #[derive(Clone, Copy, Debug, PartialEq, Eq)]
@@ -33,6 +34,12 @@ pub fn used(a: &[u16]) -> usize
     match a[..skip(a)].iter().rposition(|x| *x != 0) {
         Some(last) => last + 1,
         None => 0,
+    }
+}
+
+impl fmt::Display for Degree {
+    fn fmt<W: fmt::Write>(&self, f: &mut fmt::Formatter<W>) -> fmt::Result {
+        write!(f, "{}", self.0)
     }
 }
 

@@ -4,6 +4,8 @@ ghost use Rattle.theory_algebra.specs.Prime.{Prime};
 ghost use Rattle.poly.specs.residues.Modulus.{Ready, Residues₂, Inverse};
 ghost use Rattle.theory_algebra.specs.Modulus.{Accepted, InRange};
 
+use std::fmt;
+
 // A number below the modulus.
 #[derive(Clone, Copy, Debug, PartialEq, Eq)]
 pub struct Residue(pub(crate) u16);
@@ -67,6 +69,12 @@ impl From<Residue> for u16 {
 
     fn from(residue: Residue) -> u16 {
         residue.0
+    }
+}
+
+impl fmt::Display for Residue {
+    fn fmt<W: fmt::Write>(&self, f: &mut fmt::Formatter<W>) -> fmt::Result {
+        write!(f, "{}", self.0)
     }
 }
 

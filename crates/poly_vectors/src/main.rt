@@ -4,56 +4,35 @@
 
 ghost use Rattle.std.specs.Prelude.{◌<◌, ◌≤◌};
 ghost use Rattle.theory_algebra.specs.Prime.{Prime};
-ghost use Rattle.poly.specs.residues.Modulus.{Ready};
 ghost use Rattle.theory_algebra.specs.Modulus.{Accepted};
 ghost use Rattle.theory_lists.specs.Coefficients.{Coefficients};
 
 use poly::{Degree, Modulus, Residue, arithmetic, polynomial};
 use std::io;
 
-fn say(rt: &impl Print, label: &[u8], n: u64) -> io::Result<()> {
-    rt.write_all(label)?;
-    print!(rt; "{n}")
-}
-
-fn say_flag(rt: &impl Print, label: &[u8], flag: bool) -> io::Result<()> {
-    rt.write_all(label)?;
-    if flag {
-        rt.write_all(b"yes")
-    } else {
-        rt.write_all(b"no")
-    }
-}
-
-fn end_line(rt: &impl Print) -> io::Result<()> {
-    rt.write_all(b"\n")
+fn yes_or_no(flag: bool) -> &'static str {
+    if flag { "yes" } else { "no" }
 }
 
 // All places, constant term first.
-fn say_polynomial(rt: &impl Print, label: &[u8], a: &[u16]) -> io::Result<()> {
-    rt.write_all(label)?;
-    let mut i = 0;
-    while i < a.len() {
-        say(rt, b" ", a[i] as u64)?;
-        i += 1;
+fn say_polynomial(rt: &impl Print, label: &str, a: &[u16]) -> io::Result<()> {
+    print!(rt; "{label}")?;
+    for x in a {
+        print!(rt; " {x}")?;
     }
-    end_line(rt)
+    println!(rt)
 }
 
 fn say_degree(rt: &impl Print, a: &[u16]) -> io::Result<()> {
-    let d = Degree::of(a).0;
-    if d < 0 {
-        rt.write_all(b"degree -1")?;
-    } else {
-        say(rt, b"degree ", d as u64)?;
-    }
-    say(rt, b" leading ", polynomial::leading(a).number() as u64)?;
-    end_line(rt)
+    println!(rt;
+        "degree {} leading {}",
+        Degree::of(a),
+        polynomial::leading(a)
+    )
 }
 
 // The four operations on a and b, of which b is not zero.
 fn say_residues(rt: &impl Print, a: Residue, b: Residue, md: Modulus) -> io::Result<()>
-    requires ready { Ready md.p md.reciprocal }
     requires prime { Prime md.p }
     requires a_lt_p { (a.0 < md.p) × (0 < b.0) × (b.0 < md.p) }
 {
@@ -61,13 +40,8 @@ fn say_residues(rt: &impl Print, a: Residue, b: Residue, md: Modulus) -> io::Res
     let product = a.product(b, md);
     let difference = a.difference(b, md);
     let sum = a.sum(b, md);
-    say(rt, b"residues ", a.number() as u64)?;
-    say(rt, b" ", b.number() as u64)?;
-    say(rt, b" sum ", sum.number() as u64)?;
-    say(rt, b" difference ", difference.number() as u64)?;
-    say(rt, b" product ", product.number() as u64)?;
-    say(rt, b" inverse ", inverse.number() as u64)?;
-    end_line(rt)
+    print!(rt; "residues {a} {b} sum {sum} difference {difference} ")?;
+    println!(rt; "product {product} inverse {inverse}")
 }
 
 // Numbers that look mixed, from 0 to 65,535.
@@ -75,17 +49,15 @@ fn mix(a: &mut [u16], seed: u32)
     requires { seed < 65536 }
 {
     let mut x = seed;
-    let mut i = 0;
-    while i < a.len() {
-        a[i] = x as u16;
+    for place in a.iter_mut() {
+        *place = x as u16;
         x = (x * 25173 + 13849) % 65536;
-        i += 1;
     }
 }
 
 // The same, modulo p.
 fn fill(a: &mut [u16], seed: u32, md: Modulus)
-    requires { Ready md.p md.reciprocal × (seed < 65536) }
+    requires { seed < 65536 }
     ensures { Coefficients md.p a.new }
 {
     mix(a, seed);
@@ -94,21 +66,19 @@ fn fill(a: &mut [u16], seed: u32, md: Modulus)
 
 // Of the zero polynomial, a constant and x^63, whose low zeros count.
 fn say_edges(rt: &impl Print) -> io::Result<()> {
-    let zero = Residue::ZERO.number();
-    let one = Residue::ONE.number();
-    let mut a = [zero; 64];
+    let mut a = [0u16; 64];
     say_degree(rt, &a)?;
-    a[0] = one;
+    a[0] = 1;
     say_degree(rt, &a)?;
-    a[0] = zero;
-    a[63] = one;
+    a[0] = 0;
+    a[63] = 1;
     say_degree(rt, &a)?;
-    say_polynomial(rt, b"x^63:", &a)
+    say_polynomial(rt, "x^63:", &a)
 }
 
 // c·x^e times a polynomial of degree up to 63, added to one of degree up to 127.
 fn say_multiple(rt: &impl Print, c: u32, e: usize, seed: u32, md: Modulus) -> io::Result<()>
-    requires { Ready md.p md.reciprocal × (e ≤ 64) × (seed < 60000) }
+    requires { (e ≤ 64) × (seed < 60000) }
 {
     let mut a = [0u16; 128];
     let mut b = [0u16; 64];
@@ -116,15 +86,13 @@ fn say_multiple(rt: &impl Print, c: u32, e: usize, seed: u32, md: Modulus) -> io
     fill(&mut b, seed + 1, md);
     let c = Residue::of(c, md);
     arithmetic::add_multiple(&mut a, &b, c, e, md);
-    say(rt, b"factor ", c.number() as u64)?;
-    say(rt, b" exponent ", e as u64)?;
-    end_line(rt)?;
-    say_polynomial(rt, b"sum:", &a)?;
+    println!(rt; "factor {c} exponent {e}")?;
+    say_polynomial(rt, "sum:", &a)?;
     say_degree(rt, &a)
 }
 
 fn say_product(rt: &impl Print, seed: u32, md: Modulus) -> io::Result<()>
-    requires { Ready md.p md.reciprocal × (seed < 60000) }
+    requires { seed < 60000 }
 {
     let mut a = [0u16; 64];
     let mut b = [0u16; 64];
@@ -132,32 +100,34 @@ fn say_product(rt: &impl Print, seed: u32, md: Modulus) -> io::Result<()>
     fill(&mut a, seed, md);
     fill(&mut b, seed + 1, md);
     arithmetic::product(&a, &b, &mut out, md);
-    say_polynomial(rt, b"product:", &out)?;
+    say_polynomial(rt, "product:", &out)?;
     say_degree(rt, &out)
 }
 
 fn say_scaled(rt: &impl Print, c: u32, seed: u32, md: Modulus) -> io::Result<()>
-    requires { Ready md.p md.reciprocal × (seed < 60000) }
+    requires { seed < 60000 }
 {
     let mut a = [0u16; 64];
     let mut b = [0u16; 64];
     fill(&mut a, seed, md);
     arithmetic::copy(&a, &mut b);
     arithmetic::scale(&mut a, Residue::of(c, md), md);
-    say_polynomial(rt, b"scaled:", &a)?;
-    say_flag(rt, b"same as before: ", polynomial::equal(&a, &b))?;
+    say_polynomial(rt, "scaled:", &a)?;
+    let same = yes_or_no(polynomial::equal(&a, &b));
     arithmetic::clear(&mut b);
-    say_flag(rt, b", cleared is zero: ", polynomial::equal(&b, &[]))?;
-    end_line(rt)
+    let zero = yes_or_no(polynomial::equal(&b, &[]));
+    println!(rt; "same as before: {same}, cleared is zero: {zero}")
 }
 
 // Whether p is taken, and if so what is worked out by it.
 fn say_modulus(rt: &impl Print, p: u32) -> io::Result<()> {
-    say(rt, b"modulus ", p as u64)?;
-    say_flag(rt, b" prime ", poly::is_prime(p))?;
-    say_flag(rt, b" accepted ", Modulus::accepts(p))?;
-    end_line(rt)?;
-    if Modulus::accepts(p) {
+    let prime = yes_or_no(poly::is_prime(p));
+    let accepted = Modulus::accepts(p);
+    println!(rt;
+        "modulus {p} prime {prime} accepted {}",
+        yes_or_no(accepted)
+    )?;
+    if accepted {
         say_all(rt, p)?;
     }
     Ok(())
@@ -179,14 +149,8 @@ fn say_all(rt: &impl Print, p: u32) -> io::Result<()>
 
 fn main(rt: HostRuntime) -> io::Result<()> {
     say_edges(&rt)?;
-    say_modulus(&rt, 0)?;
-    say_modulus(&rt, 1)?;
-    say_modulus(&rt, 2)?;
-    say_modulus(&rt, 3)?;
-    say_modulus(&rt, 9)?;
-    say_modulus(&rt, 929)?;
-    say_modulus(&rt, 65521)?;
-    say_modulus(&rt, 65537)?;
-    say_modulus(&rt, 4294967291)?;
-    say_modulus(&rt, 4294967295)
+    for p in [0, 1, 2, 3, 9, 929, 65521, 65537, 4294967291, 4294967295] {
+        say_modulus(&rt, p)?;
+    }
+    Ok(())
 }

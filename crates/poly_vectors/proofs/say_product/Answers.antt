@@ -4,4 +4,4 @@ use Rattle.poly_vectors.proofs.say_product.Goals as goal
 
 pub product-requires : goal.product-requires
 product-requires g c =
-    product-room _ _ _ _ _ c.requires.0 (omega (arith, c.fill.auto.a, c.fill-2.auto.a)) (omega (arith, c.fill.auto.a))
+    product-room _ _ _ _ (omega (arith, c.fill.auto.a, c.fill-2.auto.a)) (omega (arith, c.fill.auto.a))
