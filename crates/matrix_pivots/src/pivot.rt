@@ -1,6 +1,6 @@
 // The pivot of a row: the rightmost entry of greatest degree. A column number is never compared with a degree, so that
 // each has a type of its own.
-ghost use Rattle.std.specs.Prelude.{◌≡◌, true, ◌↔◌, ◌+◌, ◌*◌, ◌-◌, ◌<◌, ◌≤◌, get_or, length};
+ghost use Rattle.std.specs.Prelude.{SomeIff, ◌≡◌, true, ◌↔◌, ◌+◌, ◌*◌, ◌-◌, ◌<◌, ◌≤◌, get_or, length};
 ghost use Rattle.theory_lists.specs.Last.{last_nonzero};
 ghost use Rattle.matrix_pivots.specs.Pivot.{value_of, row_of, values_of, IsPivotOf, Line, RowAsked, RowOfAsked, MatrixAsked};
 ghost use Rattle.matrix_pivots.specs.Pivot.{AllPivots, least_degree, nonzero_rows, degrees_together};
@@ -82,13 +82,12 @@ impl PivotDegree {
         PivotDegree(self.0 + e)
     }
 
-    // One more than "the degree of row k in i's pivot column, less i's pivot degree", and 0 where that is negative. The places in use
-    // of that entry of row k are one more than its degree.
-    pub fn excess(self, places: usize) -> usize
-        requires { 0 < self.0 }
-        ensures { result ≡ places - (self.0 - 1) }
+    // "The degree of row k in i's pivot column, less i's pivot degree", none where it is negative. The places in use of that entry of
+    // row k are one more than its degree.
+    pub fn excess(self, places: usize) -> Option<usize>
+        ensures { SomeIff result (self.0 ≤ places) (places - self.0) }
     {
-        places.saturating_sub(self.degree())
+        places.checked_sub(self.0)
     }
 }
 

@@ -26,7 +26,7 @@ fn excess(r: &[u16], shape: Shape, k: usize, pivot: Pivot) -> Option<usize>
     let start = k * shape.row() + pivot.index.column() * shape.w;
     let end = start + shape.w;
     let places = polynomial::used(&r[start..end]);
-    places.checked_sub(pivot.degree.places())
+    pivot.degree.excess(places)
 }
 
 // The lowest row before k that has the greatest excess, if any has one.
