@@ -4,7 +4,6 @@ use mathlib.Core.Logic.{◌↔◌}
 use mathlib.Core.List.{List}
 use Prim.Native.Nat.{ℕ, suc, ◌+◌, ◌-◌, ◌*◌, ◌<◌}
 use native.Mathlib.Omega.{arith}
-use native.Mathlib.Nat as N
 use Rattle.theory_algebra.specs.Field.{Field}
 use Rattle.theory_algebra.specs.Matrix.{Same}
 use Rattle.theory_algebra.specs.Prime.{Prime}

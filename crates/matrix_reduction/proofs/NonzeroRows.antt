@@ -5,7 +5,6 @@ use Prim.Native.Nat.{ℕ, zero, suc, ◌+◌, ◌*◌, ◌-◌, ◌/◌, ◌%◌
 use native.Mathlib.Nat as N
 use native.Mathlib.Omega.{arith}
 use lib.ListN.{length, get_or, take, drop}
-use lib.Pow.{pow-lt}
 use Rattle.theory_algebra.proofs.Cases.{case-le}
 use Rattle.theory_lists.specs.Total.{total}
 use Rattle.theory_lists.proofs.Grid.{within, line-end}
@@ -68,9 +67,6 @@ module _ {n m w : ℕ} {r : List ℕ} (asked : ListAsked n m w r) {rows bit i : 
 
   pub row_fits : (i * (m * w) + m * w ≤ length r) × (length r ≤ 4096)
   row_fits = (omega (arith, asked.size, line-end i n (m * w) more), omega (arith, asked.size, matrix-few asked.bounds))
-
-  pub bit-few : bit < 256
-  bit-few = let few : i < 8 = omega (arith, rows_most) in omega (arith, at.bit_is, pow-lt few)
 
   -- row i comes to the list, or not
   module _ {used x : ℕ} (used-is : used ≡ used_places (take (i * (m * w) + m * w - i * (m * w)) (drop (i * (m * w)) r)))

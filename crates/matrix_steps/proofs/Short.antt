@@ -20,11 +20,7 @@ use Rattle.theory_reduction.specs.Narrow.{pivot_degree, spent_since, Narrow}
 use Rattle.matrix_pivots.specs.Pivot.{values_of, degree_at, Pivots}
 use Rattle.matrix_pivots.specs.declared.pivot.Pivot.{Pivot}
 use Rattle.matrix_promises.specs.Holding.{Holding}
-use Rattle.matrix_steps.specs.Asked.{Sizes}
 use Rattle.matrix_steps.proofs.Moving.{height-is}
-
-pub holding-sizes : {p n m w : ℕ} {r u v : List ℕ} {t : Carried (Zp p)} → Holding p n m w r u v t → Sizes n m w r u v
-holding-sizes h = record { r_size = h.R.size; u_size = h.U.size; v_size = h.V'.size }
 
 -- by the bounds on the degrees
 module _ (p : ℕ) (P : Prime p) (n m w : ℕ) (A : ℕ → Row (Zp p)) {r u v : List ℕ} {t : Carried (Zp p)} (h : Holding p n m w r u v t)

@@ -1,12 +1,12 @@
 -- The laws of the places.
-use mathlib.Core.Path.{◌≡◌, refl, sym, ap, fun_ext, ◌∙◌}
+use mathlib.Core.Path.{◌≡◌, refl, sym, ap, ◌∙◌}
 use mathlib.Core.Logic.{◌≢◌}
 use Prim.Native.Nat.{ℕ, suc, ◌+◌, ◌*◌, ◌/◌, ◌%◌, ◌≤◌, ◌<◌}
 use native.Mathlib.Omega.{arith}
 use native.Mathlib.Nat as N
 use Rattle.theory_algebra.proofs.Cases.{case-le}
 use Rattle.theory_lists.proofs.Grid.{line-end, within}
-use Rattle.theory_lists.specs.Place.{place_in_row, spot, spaced, Outside, Hit, Layout}
+use Rattle.theory_lists.specs.Place.{place_in_row, spot, spaced, Hit, Layout}
 
 -- a place tells its block and its place in the block
 pub block-own : (s i r i' r' : ℕ) → r < s → r' < s → i * s + r ≡ i' * s + r' → (i ≡ i') × (r ≡ r')
@@ -29,13 +29,6 @@ spot-own m w i j t i' j' t' lj lt lj' lt' e =
 -- cells at distances of at least their size have no place in common
 pub spaced-apart : {w stride : ℕ} (start : ℕ) → w ≤ stride → (i j t u : ℕ) → j < i → t < w → u < w → spaced start stride j t ≢ spaced start stride i u
 spaced-apart {stride = stride} start wide i j t u lj lt lu same = omega (arith, line-end j i stride lj)
-
--- the cells of a row follow one another at equal distances, and so do those of a column
-pub rows-spaced : (m w : ℕ) → (λ i. spaced (i * (m * w)) w) ≡ spot m w
-rows-spaced m w = fun_ext (λ i. fun_ext (λ j. fun_ext (λ t. omega arith)))
-
-pub columns-spaced : (n w : ℕ) → ◌≡◌ {A = ℕ → ℕ → ℕ → ℕ} (λ x. spaced (x * w) (n * w)) (λ x i. spot n w i x)
-columns-spaced n w = fun_ext (λ x. fun_ext (λ i. fun_ext (λ t. omega arith)))
 
 -- row i ends within an n by n matrix, and the cell of column x within its row
 pub cell-ends : {n i x : ℕ} (w : ℕ) → i < n → x < n → (i * (n * w) + n * w ≤ n * (n * w)) × (x * w + w ≤ n * w)
@@ -61,12 +54,6 @@ spot-hit n m w x l =
       deg_fits = deg_fits;
       same = ap (λ y. x / (m * w) * (m * w) + y) is-cell ∙ is_row;
     }
-
--- what lies outside the cells of row i lies outside the row, which is one cell of m * w places
-pub row-outside : (m w i x : ℕ) → Outside w m (spot m w i) x → Outside (m * w) 1 (λ _ u. i * (m * w) + u) x
-row-outside m w i x away _ u _ lu same =
-    let ((cell, deg), is) = block-hit m w u lu in
-    away (u / w) (u % w) cell deg (same ∙ ap (λ y. i * (m * w) + y) (sym is))
 
 -- so that the layout of paper 01 is one
 pub spot-told : {n m w x : ℕ} (a b : Hit n m w (spot m w) x) → (a.row ≡ b.row) × ((a.col ≡ b.col) × (a.deg ≡ b.deg))
