@@ -1,8 +1,7 @@
 pub mod Search
 pub mod AllPivots
-pub mod LeastDegree
-pub mod Summing
 pub mod Bits
 pub mod Choice
+pub mod Front
 pub mod NextPair
 pub mod Unique

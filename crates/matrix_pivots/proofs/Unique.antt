@@ -4,6 +4,7 @@ use mathlib.Core.Path.{◌≡◌, refl, sym, ap, subst, ◌∙◌}
 use mathlib.Core.Bool.{Bool, true}
 use mathlib.Core.Logic.{◌↔◌, ◌⊎◌, inl, inr}
 use mathlib.Core.List.{List}
+use Rattle.std.specs.Prelude.{Option, Some, None}
 use Prim.Native.Nat.{ℕ, ◌≤◌, ◌<◌}
 use native.Mathlib.Omega.{arith}
 use lib.Seq.{ext_get_or}
@@ -13,16 +14,11 @@ use Rattle.matrix_pivots.specs.Pivot.{zero_row, degree_at, IsPivotOf, AllPivots}
 use Rattle.matrix_pivots.specs.Columns.{Meets}
 use Rattle.matrix_pivots.specs.NextPair.{Chosen, IsNext}
 use Rattle.matrix_pivots.specs.declared.pivot.Pivot.{Pivot}
-use Rattle.matrix_pivots.specs.declared.next_pair.Next.{Next}
-use Rattle.matrix_pivots.specs.declared.next_pair.Next.TheVariants.{Nothing, Rows}
+use Rattle.matrix_pivots.specs.declared.next_pair.Pair.{Pair}
 
--- of `is_zero_row` and `same`
-pub same-unique : (x y : ℕ) (r s : Bool) → (r ≡ true) ↔ (x ≡ y) → (s ≡ true) ↔ (x ≡ y) → r ≡ s
-same-unique x y = flag-unique
-
--- of `below`
-pub below-unique : (x y : ℕ) (r s : Bool) → (r ≡ true) ↔ (x < y) → (s ≡ true) ↔ (x < y) → r ≡ s
-below-unique x y = flag-unique
+-- of `is_zero_row`
+pub zero-row-unique : (x : ℕ) (r s : Bool) → (r ≡ true) ↔ (x ≡ 0) → (s ≡ true) ↔ (x ≡ 0) → r ≡ s
+zero-row-unique x = flag-unique
 
 -- of `Pivot::of` and `Pivot::of_row`
 pub pivot-unique : {m v : ℕ} (x y : Pivot) → IsPivotOf m v x.index.0 x.degree.0 → IsPivotOf m v y.index.0 y.degree.0 → x ≡ y
@@ -38,13 +34,13 @@ all-unique {n} x y f g = ext_get_or zero_row x y (f.size ∙ sym g.size) (λ i _
     (λ less. pivot-unique _ _ (f.pivots_are.row i less) (g.pivots_are.row i less)))
 
 -- of `next_rows`: "the lowest row a" and "the lowest such later row b" are one each
-chosen-unique : {n : ℕ} {pivots : List Pivot} {l k l' k' : ℕ} → Chosen n pivots l k → Chosen n pivots l' k' → (l ≡ l') × (k ≡ k')
-chosen-unique {n} {pivots} {l} {k} {l'} {k'} c d = rows c.turned d.turned
+chosen-unique : {pivots : List Pivot} {l k l' k' : ℕ} → Chosen pivots l k → Chosen pivots l' k' → (l ≡ l') × (k ≡ k')
+chosen-unique {pivots} {l} {k} {l'} {k'} c d = rows c.turned d.turned
   where
-    first : {l k l' k' : ℕ} (c : Chosen n pivots l k) (d : Chosen n pivots l' k') → ¬ (c.a < d.a)
+    first : {l k l' k' : ℕ} (c : Chosen pivots l k) (d : Chosen pivots l' k') → ¬ (c.a < d.a)
     first c d less = d.lowest_a c.a c.b less c.ordered c.fits c.meets
 
-    second : {l k l' k' : ℕ} (c : Chosen n pivots l k) (d : Chosen n pivots l' k') → c.a ≡ d.a → ¬ (c.b < d.b)
+    second : {l k l' k' : ℕ} (c : Chosen pivots l k) (d : Chosen pivots l' k') → c.a ≡ d.a → ¬ (c.b < d.b)
     second c d same less = d.lowest_b c.b (omega (arith, c.ordered)) less (subst (λ (a : ℕ). Meets pivots a c.b) same c.meets)
 
     same-a : c.a ≡ d.a
@@ -61,8 +57,8 @@ chosen-unique {n} {pivots} {l} {k} {l'} {k'} c d = rows c.turned d.turned
     rows (inl (less, _, _)) (inr (more, _, _)) = absurd (omega (arith, ap (degree_at pivots) same-a, ap (degree_at pivots) same-b))
     rows (inr (more, _, _)) (inl (less, _, _)) = absurd (omega (arith, ap (degree_at pivots) same-a, ap (degree_at pivots) same-b))
 
-pub next-unique : (n : ℕ) (pivots : List Pivot) (x y : Next) → IsNext n pivots x → IsNext n pivots y → x ≡ y
-next-unique n pivots Nothing Nothing f g = refl
-next-unique n pivots Nothing (Rows l k) f g = absurd (f g.a g.b g.ordered g.fits g.meets)
-next-unique n pivots (Rows l k) Nothing f g = absurd (g f.a f.b f.ordered f.fits f.meets)
-next-unique n pivots (Rows l k) (Rows l' k') f g = let (ls, ks) = chosen-unique f g in λ i. Rows (ls i) (ks i)
+pub next-unique : (pivots : List Pivot) (x y : Option Pair) → IsNext pivots x → IsNext pivots y → x ≡ y
+next-unique pivots None None f g = refl
+next-unique pivots None (Some y) f g = absurd (f g.a g.b g.ordered g.fits g.meets)
+next-unique pivots (Some x) None f g = absurd (g f.a f.b f.ordered f.fits f.meets)
+next-unique pivots (Some x) (Some y) f g = let (ls, ks) = chosen-unique f g in λ i. Some (record { l = ls i; k = ks i })

@@ -1,5 +1,5 @@
 -- A set of at most eight columns, as a mask.
-use Rattle.std.specs.Prelude.{◌≡◌, ◌⊎◌, List, ℕ, ◌-◌, ◌/◌, ◌%◌, ◌^◌, ◌<◌}
+use Rattle.std.specs.Prelude.{◌≡◌, ◌⊎◌, List, ℕ, ◌-◌, ◌/◌, ◌%◌, ◌^◌, ◌<◌, length}
 use Rattle.matrix_pivots.specs.Pivot.{index_at}
 use Rattle.matrix_pivots.specs.declared.pivot.Pivot.{Pivot}
 
@@ -23,10 +23,10 @@ pub record Meets (pivots : List Pivot) (i j : ℕ) : Type 0 where
   pub nonzero : 0 < index_at pivots i
   pub same : index_at pivots i ≡ index_at pivots j
 
--- "a column already in the set is what calls for a step": two of the n rows meet
-pub record RepeatsColumn (n : ℕ) (pivots : List Pivot) : Type 0 where
+-- "a column already in the set is what calls for a step": two of the rows meet
+pub record RepeatsColumn (pivots : List Pivot) : Type 0 where
   pub a : ℕ
   pub b : ℕ
   pub ordered : a < b
-  pub fits : b < n
+  pub fits : b < length pivots
   pub meets : Meets pivots a b

@@ -1,8 +1,7 @@
 -- Pivots of rows in lists: m cells of w places each. The pivots of a matrix are a list, one for each row.
-use Rattle.std.specs.Prelude.{◌≡◌, List, ℕ, zero, suc, ◌*◌, ◌+◌, ◌-◌, ◌/◌, ◌%◌, ◌≤◌, ◌<◌, min, length, get_or}
+use Rattle.std.specs.Prelude.{◌≡◌, ◌==◌, not, List, ℕ, ◌*◌, ◌+◌, ◌-◌, ◌/◌, ◌%◌, ◌≤◌, ◌<◌, min, length, get_or, fold, sum_by, count_by}
 use Rattle.theory_lists.specs.Last.{last_nonzero}
 use Rattle.theory_lists.specs.Part.{part}
-use Rattle.theory_lists.specs.Total.{total}
 use Rattle.theory_reduction.specs.Pivot.{index, height}
 use Rattle.matrix_pivots.specs.declared.pivot.Pivot.{Pivot}
 
@@ -76,12 +75,14 @@ pub record AllPivots (n m : ℕ) (v : ℕ → ℕ) (pivots : List Pivot) : Type 
   pub rest : (i : ℕ) → n ≤ i → get_or pivots i zero_row ≡ zero_row
   pub size : length pivots ≡ 8
 
--- the least of the pivot degrees of n rows, that of a zero row counting as 0, or w where that is less
-unfoldable pub least_degree : ℕ → ℕ → List Pivot → ℕ
-least_degree w zero pivots = w
-least_degree w (suc n) pivots = min (least_degree w n pivots) (degree_at pivots n - 1)
+-- the least of the pivot degrees, that of a zero row counting as 0, or w where that is less
+abbrev pub least_degree : ℕ → List Pivot → ℕ
+least_degree w pivots = fold (λ least pivot. min least (pivot.degree.0 - 1)) w pivots
 
--- the pivots of n rows, whose degrees together are a number of the machine
-pub record SumAsked (n : ℕ) (pivots : List Pivot) : Type 0 where
-  pub rows : n ≤ 8
-  pub fits : total n (λ i. degree_at pivots i - 1) < 18446744073709551616
+-- how many rows are not zero
+abbrev pub nonzero_rows : List Pivot → ℕ
+nonzero_rows pivots = count_by (λ pivot. not (pivot.index.0 == 0)) pivots
+
+-- the pivot degrees together, that of a zero row counting as 0
+abbrev pub degrees_together : List Pivot → ℕ
+degrees_together pivots = sum_by (λ pivot. pivot.degree.0 - 1) pivots

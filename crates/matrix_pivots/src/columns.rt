@@ -1,5 +1,5 @@
-// The pivot columns in use form a set of at most eight: a mask of eight bits. A column already in the set is what calls
-// for a step.
+// The pivot columns in use form a set of at most eight: a mask of eight bits, in one word for speed. A column already in
+// the set is what calls for a step.
 ghost use Rattle.std.specs.Prelude.{◌≡◌, true, ◌↔◌, ◌≤◌};
 ghost use Rattle.matrix_pivots.specs.Columns.{In, Entered, RepeatsColumn};
 ghost use Rattle.matrix_pivots.specs.NextPair.{NextAsked};
@@ -20,8 +20,7 @@ impl Columns {
         if x.is_zero_row() {
             return false;
         }
-        let c = x.column() as u32;
-        (self.0 >> c) & 1 == 1
+        (self.0 >> x.column()) & 1 == 1
     }
 
     pub fn with(self, x: PivotIndex) -> Columns
@@ -31,26 +30,21 @@ impl Columns {
         if x.is_zero_row() {
             return self;
         }
-        let c = x.column() as u32;
-        Columns(self.0 | 1 << c)
+        Columns(self.0 | 1 << x.column())
     }
 }
 
 // Whether a second row comes upon a column in use: whether a step is called for.
-pub fn repeats_column(pivots: [Pivot; 8], n: usize) -> bool
-    requires { NextAsked n pivots }
-    ensures { (result ≡ true) ↔ RepeatsColumn n pivots }
+pub fn repeats_column(pivots: &[Pivot]) -> bool
+    requires { NextAsked pivots.now }
+    ensures { (result ≡ true) ↔ RepeatsColumn pivots.now }
 {
     let mut used = Columns::NONE;
-    let mut i = 0;
-    while i < n {
-        let pivot = pivots[i];
-        let x = pivot.index;
-        if used.has(x) {
+    for pivot in pivots {
+        if used.has(pivot.index) {
             return true;
         }
-        used = used.with(x);
-        i += 1;
+        used = used.with(pivot.index);
     }
     false
 }

@@ -5,5 +5,5 @@ mod columns;
 mod next_pair;
 pub mod pivot;
 
-pub use next_pair::{Next, next_rows};
+pub use next_pair::{Pair, next_rows};
 pub use pivot::{Pivot, PivotDegree, PivotIndex};

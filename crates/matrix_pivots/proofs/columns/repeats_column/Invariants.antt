@@ -1,10 +1,6 @@
--- The set has the columns of the rows before i, and no two of these meet. The number of rows that are left falls.
-use Prim.Native.Nat.{◌-◌}
+-- The set has the columns of the rows that were looked at, and no two of these meet.
 use Rattle.matrix_pivots.proofs.Choice.{Collecting}
 use Rattle.matrix_pivots.proofs.columns.repeats_column.Given as goal
 
-abbrev pub invariant-loop-i : goal.invariant-loop-i
-invariant-loop-i l = Collecting l.pivots l.n l.used.0 l.i
-
-abbrev pub decreases-loop-i : goal.decreases-loop-i
-decreases-loop-i l = l.n - l.i
+abbrev pub invariant-loop-pivot : goal.invariant-loop-pivot
+invariant-loop-pivot l = Collecting l.pivots l.used.0 l.pivot-index
