@@ -1,5 +1,5 @@
 pub mod Terms
-pub mod Cells
+pub mod Turns
 pub mod Lines
 pub mod Ones
 pub mod Unique

@@ -21,29 +21,18 @@ cleared n w u₀ u size u-is = rw u-is (record {
   others = λ x _. get_or-imap-every _ u₀ x (λ _. refl);
 })
 
--- the ones of the rows before i are written
-pub record WritingOnes (n w : ℕ) (u : List ℕ) (i : ℕ) : Type 0 where
-  pub reached : i ≤ n
-  pub some : 0 < w
-  pub done : Ones n w i u
-
-module _ (n w : ℕ) (u : List ℕ) (i : ℕ) (now : WritingOnes n w u i) (li : i < n) where
-  -- row i and the one in it are within the buffer
+-- row i, after the rows before it
+module _ {n w : ℕ} (some : 0 < w) {i : ℕ} {u : List ℕ} (done : Ones n w i u) (li : i < n) where
+  -- the row and the one in it are within the buffer
   pub inside : (spot n w i i 0 < length u) × (n * w ≤ length u)
-  inside = (omega (arith, now.done.size, spot-inside n n w i i 0 li li now.some), omega (arith, now.done.size, line-end i n (n * w) li))
+  inside = (omega (arith, done.size, spot-inside n n w i i 0 li li some), omega (arith, done.size, line-end i n (n * w) li))
 
-  pub turn : (at x : ℕ) → at ≡ spot n w i i 0 → x ≡ 1 → WritingOnes n w (set u at x) (i + 1)
-  turn at x at-is x-is =
-      let some = now.some in
-      record {
-        reached = omega arith;
-        some = some;
-        done = rw (at-is, x-is) (record {
-          size = length-set u _ 1 ∙ now.done.size;
-          one = λ j lj. case-le (suc j) i
-              (λ before. get_or-set_other u _ _ 1 0 (λ same. omega (arith, (spot-own n w j j 0 i i 0 (omega arith) some li some same).0))
-              ∙ now.done.one j before)
-              (λ from-i. let here : j ≡ i = omega arith in rw here (get_or-set_same u _ 1 0 inside.0));
-          others = λ x elsewhere. get_or-set_other u _ x 1 0 (elsewhere i (omega arith)) ∙ now.done.others x (λ j lj. elsewhere j (omega arith));
-        });
-      }
+  pub turn : {at x : ℕ} → at ≡ spot n w i i 0 → x ≡ 1 → Ones n w (i + 1) (set u at x)
+  turn at-is x-is = rw (at-is, x-is) (record {
+    size = length-set u _ 1 ∙ done.size;
+    one = λ j lj. case-le (suc j) i
+        (λ before. get_or-set_other u _ _ 1 0 (λ same. omega (arith, (spot-own n w j j 0 i i 0 (omega arith) some li some same).0))
+        ∙ done.one j before)
+        (λ from-i. let here : j ≡ i = omega arith in rw here (get_or-set_same u _ 1 0 inside.0));
+    others = λ x elsewhere. get_or-set_other u _ x 1 0 (elsewhere i (omega arith)) ∙ done.others x (λ j lj. elsewhere j (omega arith));
+  })

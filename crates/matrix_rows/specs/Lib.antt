@@ -1,3 +1,2 @@
+pub mod Cells
 pub mod Asked
-pub mod exchange
-pub mod scale

@@ -1,40 +1,40 @@
 // Two rows or two columns change places, in place: no room is lent, for a number at a time is enough.
-ghost use Rattle.matrix_buffers.specs.Exchanged.{CellExchanged, RowsExchanged, ColumnsExchanged};
-ghost use Rattle.matrix_rows.specs.exchange.Asked.{TwoParts, TwoRows, TwoColumns};
+ghost use Rattle.matrix_buffers.specs.Exchanged.{CellsExchanged, CellExchanged, RowsExchanged, ColumnsExchanged};
+ghost use Rattle.matrix_rows.specs.Cells.{place};
+ghost use Rattle.matrix_rows.specs.Asked.{Pairs, TwoParts, TwoRows, TwoColumns};
 
-// Two parts of one buffer, place by place: they cannot both be lent at once.
-fn exchange_parts(buf: &mut [u16], one: usize, other: usize, size: usize)
-    requires { TwoParts size one other buf.old }
-    ensures { CellExchanged size one other buf.old buf.new }
+use crate::cells::Cells;
+use matrix_buffers::Shape;
+
+// Two cells of one buffer, place by place: they cannot both be lent at once.
+fn exchange_cell(buf: &mut [u16], one: usize, other: usize, w: usize)
+    requires { TwoParts w one other buf.old }
+    ensures { CellExchanged w one other buf.old buf.new }
 {
-    let mut t = 0;
-    while t < size {
-        let x = one + t;
-        let y = other + t;
-        let kept = buf[x];
-        buf[x] = buf[y];
-        buf[y] = kept;
-        t += 1;
+    for t in 0..w {
+        buf.swap(one + t, other + t);
     }
 }
 
-pub fn exchange_rows(buf: &mut [u16], i: usize, j: usize, m: usize, w: usize)
-    requires { TwoRows m w i j buf.old }
-    ensures { RowsExchanged m w i j buf.old buf.new }
+fn exchange_cells(buf: &mut [u16], one: Cells, other: Cells)
+    requires { Pairs one other buf.old }
+    ensures { CellsExchanged one.w one.count (place one) (place other) buf.old buf.new }
 {
-    let size = m * w;
-    exchange_parts(buf, i * size, j * size, size);
+    for i in 0..one.count {
+        exchange_cell(buf, one.start(i), other.start(i), one.w);
+    }
 }
 
-// The cells of a column lie apart, one in each row.
+pub fn exchange_rows(buf: &mut [u16], shape: Shape, i: usize, j: usize)
+    requires { TwoRows shape.m shape.w i j buf.old }
+    ensures { RowsExchanged shape.m shape.w i j buf.old buf.new }
+{
+    exchange_cells(buf, Cells::of_row(shape, i), Cells::of_row(shape, j));
+}
+
 pub fn exchange_columns(v: &mut [u16], n: usize, w: usize, x: usize, y: usize)
     requires { TwoColumns n w x y v.old }
     ensures { ColumnsExchanged n w x y v.old v.new }
 {
-    let mut i = 0;
-    while i < n {
-        let row = i * (n * w);
-        exchange_parts(v, row + x * w, row + y * w, w);
-        i += 1;
-    }
+    exchange_cells(v, Cells::of_column(n, w, x), Cells::of_column(n, w, y));
 }

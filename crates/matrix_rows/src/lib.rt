@@ -1,13 +1,16 @@
 // Row and column operations on matrices of polynomials that stand in buffers, straight in the buffer: no room is lent, and none made.
 #![tactic(auto)]
 
-ghost use Rattle.theory_lists.specs.Place.{spaced};
 ghost use Rattle.matrix_buffers.specs.Added.{CellsAdded, CellAdded, RowAdded, ColumnAdded};
 ghost use Rattle.matrix_buffers.specs.Diagonal.{Diagonal};
+ghost use Rattle.matrix_rows.specs.Cells.{place};
 ghost use Rattle.matrix_rows.specs.Asked.{CellPair, CellPairs, RowsInBuffer, ColumnsInBuffer, Square};
 
+use crate::cells::Cells;
+use matrix_buffers::Shape;
 use poly::{Modulus, Residue, arithmetic, polynomial};
 
+mod cells;
 mod exchange;
 mod scale;
 
@@ -27,61 +30,51 @@ fn add_cell(
     e: usize,
     md: Modulus,
 )
-    requires { CellPair md.p md.reciprocal c.0 e w top to from buf.old }
+    requires { CellPair md.p c.0 e w top to from buf.old }
     ensures { CellAdded md.p c.0 e w to from buf.old buf.old buf.new }
 {
     let last = from + top;
     let n = polynomial::used(&buf[from..last]);
     let end = to + w;
-    let mut i = 0;
-    while i < n {
-        let y = Residue::held(buf[from + i]);
+    for i in 0..n {
+        let y = Residue::from(buf[from + i]);
         arithmetic::add_at(&mut buf[to..end], e + i, y, c, md);
-        i += 1;
     }
 }
 
-// The same for `count` pairs of cells, which follow one another at equal distances: the cells of two rows or of two columns.
-fn add_cells(
-    buf: &mut [u16],
-    to: usize,
-    from: usize,
-    stride: usize,
-    count: usize,
-    w: usize,
-    top: usize,
-    c: Residue,
-    e: usize,
-    md: Modulus,
-)
-    requires { CellPairs md.p md.reciprocal c.0 e w top to from stride count buf.old }
-    ensures { CellsAdded md.p c.0 e w count (spaced to stride) (spaced from stride) buf.old buf.old buf.new }
+// The same for the cells of two rows or of two columns.
+fn add_cells(buf: &mut [u16], to: Cells, from: Cells, top: usize, c: Residue, e: usize, md: Modulus)
+    requires { CellPairs md.p c.0 e top to from buf.old }
+    ensures { CellsAdded md.p c.0 e to.w to.count (place to) (place from) buf.old buf.old buf.new }
 {
-    let mut i = 0;
-    while i < count {
-        let done = i * stride;
-        add_cell(buf, to + done, from + done, w, top, c, e, md);
-        i += 1;
+    for i in 0..to.count {
+        add_cell(buf, to.start(i), from.start(i), to.w, top, c, e, md);
     }
 }
 
 // Row l takes c·x^e times row k.
 pub fn add_row(
     buf: &mut [u16],
+    shape: Shape,
     l: usize,
     k: usize,
-    m: usize,
-    w: usize,
     top: usize,
     c: Residue,
     e: usize,
     md: Modulus,
 )
-    requires { RowsInBuffer md.p md.reciprocal c.0 e m w top l k buf.old }
-    ensures { RowAdded md.p m w c.0 e l k buf.old buf.new }
+    requires { RowsInBuffer md.p c.0 e shape.m shape.w top l k buf.old }
+    ensures { RowAdded md.p shape.m shape.w c.0 e l k buf.old buf.new }
 {
-    let size = m * w;
-    add_cells(buf, l * size, k * size, w, m, w, top, c, e, md);
+    add_cells(
+        buf,
+        Cells::of_row(shape, l),
+        Cells::of_row(shape, k),
+        top,
+        c,
+        e,
+        md,
+    );
 }
 
 // Column x takes c·x^e times column y.
@@ -96,11 +89,18 @@ pub fn add_column(
     e: usize,
     md: Modulus,
 )
-    requires { ColumnsInBuffer md.p md.reciprocal c.0 e n w top x y v.old }
+    requires { ColumnsInBuffer md.p c.0 e n w top x y v.old }
     ensures { ColumnAdded md.p n w c.0 e x y v.old v.new }
 {
-    let size = n * w;
-    add_cells(v, x * w, y * w, size, n, w, top, c, e, md);
+    add_cells(
+        v,
+        Cells::of_column(n, w, x),
+        Cells::of_column(n, w, y),
+        top,
+        c,
+        e,
+        md,
+    );
 }
 
 // The identity: zeros, and then a one in each row.
@@ -109,11 +109,8 @@ pub fn write_identity(u: &mut [u16], n: usize, w: usize)
     ensures { Diagonal n w u.new }
 {
     arithmetic::clear(u);
-    let one = Residue::ONE.number();
-    let mut i = 0;
-    while i < n {
-        let at = i * (n * w) + i * w;
-        u[at] = one;
-        i += 1;
+    let one = u16::from(Residue::ONE);
+    for i in 0..n {
+        u[i * (n * w) + i * w] = one;
     }
 }

@@ -1,14 +1,16 @@
 // A row or a column is multiplied by a residue, in place.
-ghost use Rattle.std.specs.Prelude.{◌*◌};
-ghost use Rattle.theory_lists.specs.Place.{spaced};
+ghost use Rattle.std.specs.Prelude.{◌+◌, ◌≤◌, length};
 ghost use Rattle.matrix_buffers.specs.Scaled.{CellsScaled, CellScaled, RowScaled, ColumnScaled};
-ghost use Rattle.matrix_rows.specs.scale.Asked.{PartToScale, CellsToScale, ColumnToScale};
+ghost use Rattle.matrix_rows.specs.Cells.{place};
+ghost use Rattle.matrix_rows.specs.Asked.{InBuffer, OneRow, OneColumn};
 
+use crate::cells::Cells;
+use matrix_buffers::Shape;
 use poly::{Modulus, Residue, arithmetic, polynomial};
 
 // The zeros at the end of a cell are left: their multiples are zero, and most places of U are such zeros.
 fn scale_cell(buf: &mut [u16], start: usize, w: usize, c: Residue, md: Modulus)
-    requires { PartToScale md.p md.reciprocal w start buf.old }
+    requires { start + w ≤ length buf.old }
     ensures { CellScaled md.p c.0 w start buf.old buf.new }
 {
     let end = start + w;
@@ -16,38 +18,25 @@ fn scale_cell(buf: &mut [u16], start: usize, w: usize, c: Residue, md: Modulus)
     arithmetic::scale(&mut buf[start..used], c, md);
 }
 
-// `count` cells that follow one another at equal distances: those of a row or of a column.
-fn scale_cells(
-    buf: &mut [u16],
-    start: usize,
-    stride: usize,
-    count: usize,
-    w: usize,
-    c: Residue,
-    md: Modulus,
-)
-    requires { CellsToScale md.p md.reciprocal w start stride count buf.old }
-    ensures { CellsScaled md.p c.0 w count (spaced start stride) buf.old buf.new }
+fn scale_cells(buf: &mut [u16], cells: Cells, c: Residue, md: Modulus)
+    requires { InBuffer cells.w cells.count cells buf.old }
+    ensures { CellsScaled md.p c.0 cells.w cells.count (place cells) buf.old buf.new }
 {
-    let mut i = 0;
-    while i < count {
-        scale_cell(buf, start + i * stride, w, c, md);
-        i += 1;
+    for i in 0..cells.count {
+        scale_cell(buf, cells.start(i), cells.w, c, md);
     }
 }
 
-pub fn scale_row(buf: &mut [u16], i: usize, m: usize, w: usize, c: Residue, md: Modulus)
-    requires { PartToScale md.p md.reciprocal (m * w) (i * (m * w)) buf.old }
-    ensures { RowScaled md.p m w c.0 i buf.old buf.new }
+pub fn scale_row(buf: &mut [u16], shape: Shape, i: usize, c: Residue, md: Modulus)
+    requires { OneRow shape.m shape.w i buf.old }
+    ensures { RowScaled md.p shape.m shape.w c.0 i buf.old buf.new }
 {
-    let size = m * w;
-    scale_cells(buf, i * size, w, m, w, c, md);
+    scale_cells(buf, Cells::of_row(shape, i), c, md);
 }
 
 pub fn scale_column(v: &mut [u16], n: usize, w: usize, x: usize, c: Residue, md: Modulus)
-    requires { ColumnToScale md.p md.reciprocal n w x v.old }
+    requires { OneColumn n w x v.old }
     ensures { ColumnScaled md.p n w c.0 x v.old v.new }
 {
-    let size = n * w;
-    scale_cells(v, x * w, size, n, w, c, md);
+    scale_cells(v, Cells::of_column(n, w, x), c, md);
 }

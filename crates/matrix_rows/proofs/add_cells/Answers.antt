@@ -1,29 +1,17 @@
-use borrow.Author.Rules.{rules}
-use native.Mathlib.Omega.{arith}
-use Rattle.matrix_buffers.proofs.CellByCell.{writing_start, writing-end}
-use Rattle.matrix_rows.proofs.Cells.{pair, turn}
+use native.Mathlib.Nat.{le_antisymm}
+use Rattle.matrix_buffers.proofs.CellByCell.{none_written}
+use Rattle.matrix_rows.proofs.Turns.{add-asked, add-turn}
 use Rattle.matrix_rows.proofs.add_cells.Goals as goal
 
 pub loop-i-init : goal.loop-i-init
-loop-i-init c = writing_start
-
-pub overflow_mul-done : goal.overflow_mul-done
-overflow_mul-done c = omega (arith, c.requires.to_fits _ c.loop-i-test.true)
-
-pub overflow_add-to : goal.overflow_add-to
-overflow_add-to c = omega (arith, c.requires.to_fits _ c.loop-i-test.true)
-
-pub overflow_add-from : goal.overflow_add-from
-overflow_add-from c = omega (arith, c.requires.from_fits _ c.loop-i-test.true)
+loop-i-init c = none_written
 
 pub add_cell-requires : goal.add_cell-requires
-add_cell-requires c = search (rules, pair)
+add_cell-requires c = rw (c.start.ensures, c.start-in-loop-i.ensures) (add-asked c.requires c.loop-i.invariant c.loop-i-test.true)
 
 pub loop-i-preserved : goal.loop-i-preserved
-loop-i-preserved c = search (rules, turn)
-
-pub shape_of-buf : goal.shape_of-buf
-shape_of-buf c = c.loop-i.invariant.done.size
+loop-i-preserved c =
+    add-turn c.requires c.loop-i.invariant c.loop-i-test.true (rw (c.start.ensures, c.start-in-loop-i.ensures) at c.add_cell.ensures)
 
 pub returns : goal.returns
-returns c = writing-end c.loop-i.invariant c.loop-i-test.false
+returns c = rw (le_antisymm c.loop-i.auto.i-end c.loop-i-test.false) at c.loop-i.invariant

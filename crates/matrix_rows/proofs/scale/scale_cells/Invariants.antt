@@ -1,10 +1,7 @@
-use Prim.Native.Nat.{◌-◌}
-use Rattle.matrix_rows.proofs.scale.Cells.{Scaling}
+use Rattle.matrix_buffers.specs.Scaled.{CellsScaled}
+use Rattle.matrix_rows.specs.Cells.{place}
 use Rattle.matrix_rows.proofs.scale.scale_cells.Given as goal
 
--- The first i cells are multiplied, and no other place has changed. The cells that are left fall.
+-- The first i cells are multiplied, and no other place has changed.
 abbrev pub invariant-loop-i : goal.invariant-loop-i
-invariant-loop-i l = Scaling l.md.p l.c.0 l.w l.start l.stride l.count l.initial.buf l.buf l.i
-
-abbrev pub decreases-loop-i : goal.decreases-loop-i
-decreases-loop-i l = l.count - l.i
+invariant-loop-i l = CellsScaled l.md.p l.c.0 l.cells.w l.i (place l.cells) l.initial.buf l.buf

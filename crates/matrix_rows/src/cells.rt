@@ -1,0 +1,49 @@
+// The cells of a row or of a column: `count` cells of w places each in one buffer, the first at `first`, at distances of `stride`.
+ghost use Rattle.std.specs.Prelude.{◌≡◌, ◌+◌, ◌*◌, ◌<◌};
+ghost use Rattle.matrix_rows.specs.Cells.{row, column};
+
+use matrix_buffers::Shape;
+
+#[derive(Clone, Copy)]
+pub(crate) struct Cells {
+    pub(crate) first: usize,
+    pub(crate) stride: usize,
+    pub(crate) count: usize,
+    pub(crate) w: usize,
+}
+
+impl Cells {
+    // Those of row i stand one behind the other.
+    pub(crate) fn of_row(shape: Shape, i: usize) -> Cells
+        requires { i * (shape.m * shape.w) + shape.m * shape.w < 18446744073709551616 }
+        ensures { result ≡ row shape.m shape.w i }
+    {
+        Cells {
+            first: i * shape.row(),
+            stride: shape.w,
+            count: shape.m,
+            w: shape.w,
+        }
+    }
+
+    // Those of column x of an n by n matrix stand one in each row.
+    pub(crate) fn of_column(n: usize, w: usize, x: usize) -> Cells
+        requires { (x < n) × (n * w < 18446744073709551616) }
+        ensures { result ≡ column n w x }
+    {
+        Cells {
+            first: x * w,
+            stride: n * w,
+            count: n,
+            w,
+        }
+    }
+
+    // Where cell i starts.
+    pub(crate) fn start(self, i: usize) -> usize
+        requires { self.first + i * self.stride < 18446744073709551616 }
+        ensures { result ≡ self.first + i * self.stride }
+    {
+        self.first + i * self.stride
+    }
+}
