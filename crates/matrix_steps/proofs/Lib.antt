@@ -1,4 +1,5 @@
 pub mod Value
+pub mod Next
 pub mod LinesAsked
 pub mod RowsOf
 pub mod Moving

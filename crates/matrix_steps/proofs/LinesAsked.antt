@@ -5,11 +5,10 @@ use Prim.Native.Nat.{ℕ, ◌+◌, ◌-◌, ◌*◌, ◌≤◌}
 use native.Mathlib.Nat.{mul-zero, zero-mod}
 use native.Mathlib.Omega.{arith}
 use borrow.Author.Tests.{le-leb}
-use Rattle.theory_lists.proofs.Grid.{line-end}
 use Rattle.theory_lists.specs.Place.{spot}
-use Rattle.poly.specs.residues.Modulus.{Ready}
 use Rattle.matrix_buffers.specs.Added.{RowAdded}
 use Rattle.matrix_rows.specs.Asked.{Short, RowsInBuffer, ColumnsInBuffer}
+use Rattle.matrix_rows.proofs.Lines.{two-rows}
 use Rattle.matrix_pivots.specs.Pivot.{RowOfAsked}
 use Rattle.matrix_pivots.specs.declared.pivot.Pivot.{Pivot}
 use Rattle.matrix_steps.proofs.multiple.Below.{negative-below}
@@ -17,7 +16,7 @@ use Rattle.matrix_steps.specs.multiple.Factor.{Divided, Factor}
 use Rattle.matrix_steps.specs.Asked.{LowerAsked, MoveAsked, FollowAsked}
 
 -- two rows of R with their pivots, and the multiple that is taken away
-module _ {p reciprocal m w l k : ℕ} {high low : Pivot} {r : List ℕ} (asked : LowerAsked p reciprocal m w l k high low r)
+module _ {p m w l k : ℕ} {high low : Pivot} {r : List ℕ} (asked : LowerAsked p m w l k high low r)
     {e c f : ℕ} (g : Factor p m w l k high low r e c f) where
   exponent : e + low.degree.0 ≡ high.degree.0
   exponent = omega (arith, g.e_is, asked.plan.order)
@@ -25,12 +24,10 @@ module _ {p reciprocal m w l k : ℕ} {high low : Pivot} {r : List ℕ} (asked :
   high-most : high.degree.0 ≤ w
   high-most = asked.plan.l_pivot.leading.height_most
 
-  pub row-asked : RowsInBuffer p reciprocal f e m w low.degree.0 l k r
+  pub row-asked : RowsInBuffer p f e m w low.degree.0 l k r
   row-asked = record {
-    multiplier = record { ready = asked.plan.ready; factor = negative-below g; room = omega (arith, exponent, high-most) };
-    l_fits = asked.plan.l_pivot.leading.row;
-    k_fits = asked.plan.k_pivot.leading.row;
-    differ = asked.differ;
+    multiplier = record { factor = negative-below g; room = omega (arith, exponent, high-most) };
+    rows = record { i_fits = asked.plan.l_pivot.leading.row; j_fits = asked.plan.k_pivot.leading.row; differ = asked.differ };
     residues = asked.plan.residues;
     short = asked.k_short;
   }
@@ -55,32 +52,27 @@ module _ {p reciprocal m w l k : ℕ} {high low : Pivot} {r : List ℕ} (asked :
     }
 
 -- row k of U is added to row l, and column l of V to column k
-module _ {p reciprocal n w l k e c f u_top v_top : ℕ} {u v : List ℕ} (asked : FollowAsked p reciprocal n w l k e c f u_top v_top u v) where
-  open asked use {ready, c_below, f_below, move}
+module _ {p n w l k e c f u_top v_top : ℕ} {u v : List ℕ} (asked : FollowAsked p n w l k e c f u_top v_top u v) where
+  open asked use {c_below, f_below, move}
 
-  pub u-asked : RowsInBuffer p reciprocal f e n (n * w) u_top l k u
+  pub u-asked : RowsInBuffer p f e n (n * w) u_top l k u
   u-asked = record {
-    multiplier = record { ready = ready; factor = f_below; room = move.u_room };
-    l_fits = omega (arith, move.u_size, line-end l n (n * (n * w)) move.l_fits);
-    k_fits = omega (arith, move.u_size, line-end k n (n * (n * w)) move.k_fits);
-    differ = move.differ;
+    multiplier = record { factor = f_below; room = move.u_room };
+    rows = two-rows move.u_size move.l_fits move.k_fits move.differ;
     residues = move.u_residues;
     short = move.u_short;
   }
 
-  pub v-asked : ColumnsInBuffer p reciprocal c e n w v_top k l v
+  pub v-asked : ColumnsInBuffer p c e n w v_top k l v
   v-asked = record {
-    multiplier = record { ready = ready; factor = c_below; room = move.v_room };
-    size = move.v_size;
-    x_fits = move.k_fits;
-    y_fits = move.l_fits;
-    differ = λ q. move.differ (sym q);
+    multiplier = record { factor = c_below; room = move.v_room };
+    columns = record { size = move.v_size; x_fits = move.k_fits; y_fits = move.l_fits; differ = λ q. move.differ (sym q) };
     residues = move.v_residues;
     short = move.v_short;
   }
 
 -- with the multiple that a division gives
-pub follow-asked : {p reciprocal n w l k a b d e c f u_top v_top : ℕ} {u v : List ℕ}
-    → Ready p reciprocal → MoveAsked p n w l k d u_top v_top u v → Divided p a b d e c f
-    → FollowAsked p reciprocal n w l k e c f u_top v_top u v
-follow-asked ready move g = record { ready = ready; c_below = g.c_below; f_below = negative-below g; move = rw g.e_is move }
+pub follow-asked : {p n w l k a b d e c f u_top v_top : ℕ} {u v : List ℕ}
+    → MoveAsked p n w l k d u_top v_top u v → Divided p a b d e c f
+    → FollowAsked p n w l k e c f u_top v_top u v
+follow-asked move g = record { c_below = g.c_below; f_below = negative-below g; move = rw g.e_is move }

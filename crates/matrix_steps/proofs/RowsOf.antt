@@ -9,7 +9,6 @@ use native.Mathlib.Omega.{arith}
 use lib.ListN.{length, get_or, set}
 use lib.Seq.{ext_get_or}
 use Rattle.theory_algebra.specs.Prime.{Prime}
-use Rattle.poly.specs.residues.Modulus.{Ready}
 use Rattle.theory_lists.specs.Coefficients.{Coefficients}
 use Rattle.theory_lists.proofs.Last.{last-is}
 use Rattle.theory_lists.proofs.Part.{length_part, get_or-part}
@@ -102,11 +101,10 @@ module _ (n m w : ℕ) (columns : 0 < m) (r : List ℕ) (size : length r ≡ n *
     pivot-short i li = subst (λ (h : ℕ). Short w h m (spot m w i) r) (sym (found.row i li).degree_is) (row-short i li)
 
     -- of two rows that a step reduces
-    pub lower-asked : {p reciprocal l k : ℕ} → Ready p reciprocal → Prime p → Coefficients p r → StepRows n m (values_of m w r) l k
-        → LowerAsked p reciprocal m w l k (get_or pivots l zero_row) (get_or pivots k zero_row) r
-    lower-asked {l = l} {k = k} ready prime residues reducing = record {
+    pub lower-asked : {p l k : ℕ} → Prime p → Coefficients p r → StepRows n m (values_of m w r) l k
+        → LowerAsked p m w l k (get_or pivots l zero_row) (get_or pivots k zero_row) r
+    lower-asked {l = l} {k = k} prime residues reducing = record {
       plan = record {
-        ready = ready;
         prime = prime;
         residues = residues;
         l_pivot = pivot-asked l reducing.l_fits (clash-first reducing.clash);
@@ -145,7 +143,7 @@ module _ {p n m w l k : ℕ} {high low : Pivot} {r r' : List ℕ} {x : Lowered} 
       (λ i li ne. rw (other_row i li ne) (found.row i li))
 
   -- the height of row l has not grown
-  pub no-higher : {reciprocal : ℕ} → LowerAsked p reciprocal m w l k high low r → x.pivot.degree.0 ≤ high.degree.0
+  pub no-higher : LowerAsked p m w l k high low r → x.pivot.degree.0 ≤ high.degree.0
   no-higher asked =
       let short = short-after asked lowered.factor lowered.r_move in
       omega (arith, lowered.renewed.degree_is, height-under n m w asked.columns r' size-after l high.degree.0 ll short)

@@ -48,7 +48,7 @@ quotient-unique {p} {b = b} {c} {c'} P b-below nonzero c_below c'-below is is' =
     same = zp-path _ _ (field-mul p P y' x ∙ is' ∙ sym (field-mul p P y x ∙ is))
 
 -- the multiple that a division gives
-pub divide-unique : {p reciprocal a b d : ℕ} → DivideAsked p reciprocal a b → (x y : Multiple)
+pub divide-unique : {p a b d : ℕ} → DivideAsked p a b → (x y : Multiple)
     → Divided p a b d x.exponent x.factor.0 x.negated.0 → Divided p a b d y.exponent y.factor.0 y.negated.0 → x ≡ y
 divide-unique {p} asked x y f g =
     let e-same : x.exponent ≡ y.exponent = f.e_is ∙ sym g.e_is in
@@ -56,14 +56,14 @@ divide-unique {p} asked x y f g =
     let f-same : x.negated.0 ≡ y.negated.0 = f.f_is ∙ ap (λ (c : ℕ). (p - c) % p) c-same ∙ sym g.f_is in
     λ i. record { exponent = e-same i; factor = record { 0 = c-same i }; negated = record { 0 = f-same i } }
 
-pub plan-unique : {p reciprocal m w l k : ℕ} {high low : Pivot} {r : List ℕ} → PlanAsked p reciprocal m w l k high low r → (x y : Multiple)
+pub plan-unique : {p m w l k : ℕ} {high low : Pivot} {r : List ℕ} → PlanAsked p m w l k high low r → (x y : Multiple)
     → Factor p m w l k high low r x.exponent x.factor.0 x.negated.0
     → Factor p m w l k high low r y.exponent y.factor.0 y.negated.0 → x ≡ y
 plan-unique asked = divide-unique (divide-asked asked)
 
 -- the multiple, the pivot that is found anew, and the matrix
-pub lower-unique : {p reciprocal m w l k : ℕ} {high low : Pivot} {r r₁ r₂ : List ℕ}
-    → LowerAsked p reciprocal m w l k high low r → (x y : Lowered)
+pub lower-unique : {p m w l k : ℕ} {high low : Pivot} {r r₁ r₂ : List ℕ}
+    → LowerAsked p m w l k high low r → (x y : Lowered)
     → IsLowered p m w l k high low r r₁ x → IsLowered p m w l k high low r r₂ y → ◌≡◌ {A = Lowered × List ℕ} (x, r₁) (y, r₂)
 lower-unique {p} {m = m} {w} {l} {k} {r = r} {r₁} {r₂} asked x y f g =
     let multiples = plan-unique asked.plan x.multiple y.multiple f.factor g.factor in

@@ -2,14 +2,13 @@
 use Rattle.std.specs.Prelude.{◌≡◌, ◌≢◌, List, ℕ, ◌+◌, ◌*◌, ◌≤◌, ◌<◌, length}
 use Rattle.theory_lists.specs.Coefficients.{Coefficients}
 use Rattle.theory_lists.specs.Place.{spot}
-use Rattle.poly.specs.residues.Modulus.{Ready}
 use Rattle.matrix_rows.specs.Asked.{Short}
 use Rattle.matrix_pivots.specs.declared.pivot.Pivot.{Pivot}
 use Rattle.matrix_steps.specs.multiple.Asked.{PlanAsked}
 
 -- two rows that are to be reduced, with their pivots, from whose degrees on they are zero
-pub record LowerAsked (p reciprocal m w l k : ℕ) (high low : Pivot) (r : List ℕ) : Type 0 where
-  pub plan : PlanAsked p reciprocal m w l k high low r
+pub record LowerAsked (p m w l k : ℕ) (high low : Pivot) (r : List ℕ) : Type 0 where
+  pub plan : PlanAsked p m w l k high low r
   pub columns : 0 < m
   pub differ : l ≢ k
   pub l_short : Short w high.degree.0 m (spot m w l) r
@@ -31,8 +30,7 @@ pub record MoveAsked (p n w l k e u_top v_top : ℕ) (u v : List ℕ) : Type 0 w
   pub v_room : e + v_top ≤ w
 
 -- such rows and columns, and two residues
-pub record FollowAsked (p reciprocal n w l k e c f u_top v_top : ℕ) (u v : List ℕ) : Type 0 where
-  pub ready : Ready p reciprocal
+pub record FollowAsked (p n w l k e c f u_top v_top : ℕ) (u v : List ℕ) : Type 0 where
   pub c_below : c < p
   pub f_below : f < p
   pub move : MoveAsked p n w l k e u_top v_top u v

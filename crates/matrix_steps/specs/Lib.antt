@@ -1,3 +1,4 @@
 pub mod multiple
 pub mod Asked
 pub mod Subtraction
+pub mod Next

@@ -4,10 +4,10 @@ use Rattle.theory_lists.proofs.Grid.{one_line}
 use Rattle.matrix_steps.proofs.LinesAsked.{u-asked, v-asked}
 use Rattle.matrix_steps.proofs.follow.Goals as goal
 
-pub overflow_mul-n : goal.overflow_mul-n
-overflow_mul-n c =
-    let n = c.args.n in
-    let cell = n * c.args.w in
+pub overflow_mul-of_u : goal.overflow_mul-of_u
+overflow_mul-of_u c =
+    let n = c.args.shape.n in
+    let cell = n * c.args.shape.w in
     let rows : 0 < n = omega (arith, c.requires.move.l_fits) in
     omega (arith, c.requires.move.u_size, one_line n cell rows, one_line n (n * cell) rows)
 

@@ -15,10 +15,9 @@ coefficient-below {m = m} {w = w} {x = x} {h = h} residues a = residues.below _
     (omega (arith, a.row, within (x - 1) (h - 1) m w (omega (arith, a.column, a.column_most)) (omega (arith, a.height, a.height_most))))
 
 -- so two leading coefficients of which the second is not 0 can be divided
-pub divide-asked : {p reciprocal m w l k : ℕ} {high low : Pivot} {r : List ℕ} → PlanAsked p reciprocal m w l k high low r
-    → DivideAsked p reciprocal (leading_at m w r l high) (leading_at m w r k low)
+pub divide-asked : {p m w l k : ℕ} {high low : Pivot} {r : List ℕ} → PlanAsked p m w l k high low r
+    → DivideAsked p (leading_at m w r l high) (leading_at m w r k low)
 divide-asked asked = record {
-  ready = asked.ready;
   prime = asked.prime;
   dividend = coefficient-below asked.residues asked.l_pivot.leading;
   divisor = coefficient-below asked.residues asked.k_pivot.leading;

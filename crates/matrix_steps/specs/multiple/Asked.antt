@@ -2,7 +2,6 @@
 use Rattle.std.specs.Prelude.{List, ℕ, ◌+◌, ◌*◌, ◌≤◌, ◌<◌, length}
 use Rattle.theory_algebra.specs.Prime.{Prime}
 use Rattle.theory_lists.specs.Coefficients.{Coefficients}
-use Rattle.poly.specs.residues.Modulus.{Ready}
 use Rattle.matrix_pivots.specs.declared.pivot.Pivot.{Pivot}
 use Rattle.matrix_steps.specs.multiple.Factor.{leading_at}
 
@@ -15,8 +14,7 @@ pub record CoefficientAsked (m w i x h : ℕ) (r : List ℕ) : Type 0 where
   pub height_most : h ≤ w
 
 -- residues of which b is not 0
-pub record DivideAsked (p reciprocal a b : ℕ) : Type 0 where
-  pub ready : Ready p reciprocal
+pub record DivideAsked (p a b : ℕ) : Type 0 where
   pub prime : Prime p
   pub dividend : a < p
   pub divisor : b < p
@@ -28,8 +26,7 @@ pub record PivotAsked (m w i : ℕ) (x : Pivot) (r : List ℕ) : Type 0 where
   pub nonzero : 0 < leading_at m w r i x
 
 -- two such rows, of which l is the higher
-pub record PlanAsked (p reciprocal m w l k : ℕ) (high low : Pivot) (r : List ℕ) : Type 0 where
-  pub ready : Ready p reciprocal
+pub record PlanAsked (p m w l k : ℕ) (high low : Pivot) (r : List ℕ) : Type 0 where
   pub prime : Prime p
   pub residues : Coefficients p r
   pub l_pivot : PivotAsked m w l high r
