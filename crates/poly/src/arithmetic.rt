@@ -89,5 +89,5 @@ pub fn copy(from: &[u16], to: &mut [u16])
 pub fn clear(a: &mut [u16])
     ensures { a.new ≡ zeros a.old }
 {
-    a.fill(0);
+    a.fill(u16::from(Residue::ZERO));
 }

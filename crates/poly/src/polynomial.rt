@@ -31,7 +31,10 @@ fn skip(a: &[u16]) -> usize
 pub fn used(a: &[u16]) -> usize
     ensures { (result ≡ used_places a.now) × (result ≤ length a.now) }
 {
-    match a[..skip(a)].iter().rposition(|x| *x != 0) {
+    match a[..skip(a)]
+        .iter()
+        .rposition(|x| Residue::from(*x) != Residue::ZERO)
+    {
         Some(last) => last + 1,
         None => 0,
     }

@@ -4,4 +4,4 @@ use Rattle.poly.proofs.arithmetic.Places.{zeros-replicate}
 use Rattle.poly.proofs.arithmetic.clear.Goals as goal
 
 pub returns : goal.returns
-returns c = c.fill.ensures.after (search rules) ∙ sym (zeros-replicate _)
+returns c = rw c.from.ensures at c.fill.ensures.after (search rules) ∙ sym (zeros-replicate _)
