@@ -1,3 +1,3 @@
-mod Repeat
+mod Rounds
 mod Answers
 pub mod Unique

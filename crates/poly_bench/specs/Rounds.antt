@@ -1,5 +1,6 @@
 -- What the timed functions leave: the result of the last round.
-use Rattle.std.specs.Prelude.{ℕ, zero, suc, ◌+◌, ◌%◌, ◌≤◌, ◌≡◌, Bool, true, false, List, ◌↔◌, length}
+use Rattle.std.specs.Prelude.{ℕ, zero, suc, ◌+◌, ◌%◌, ◌<◌, ◌≤◌, ◌≡◌, Bool, true, false, List, ◌↔◌, length}
+use Rattle.std.specs.Borrow.{MutBor}
 use Rattle.theory_algebra.specs.Modulus.{Accepted}
 use Rattle.poly.specs.arithmetic.Operations.{plus_multiple, product_of, scaled_by}
 
@@ -7,6 +8,12 @@ use Rattle.poly.specs.arithmetic.Operations.{plus_multiple, product_of, scaled_b
 unfoldable pub repeated : ℕ → (List ℕ → List ℕ) → List ℕ → List ℕ
 repeated zero g l = l
 repeated (suc n) g l = g (repeated n g l)
+
+-- a step on the places that are lent may be taken in each round, where pre says that it may and post what it may leave, and it changes
+-- them as the rule says
+abbrev pub TakesRounds : (MutBor (List ℕ) → Type 0) → (MutBor (List ℕ) → MutBor (List ℕ) → Type 0) → ℕ → (List ℕ → List ℕ) → List ℕ → Type 0
+TakesRounds pre post rounds change l = (n : ℕ) → n < rounds → (p : MutBor (List ℕ)) → p.now ≡ repeated n change l
+    → pre p × ((q : MutBor (List ℕ)) → post p q → q.now ≡ change p.now)
 
 -- both lists are reduced modulo p, then c·x^e times b is added to a as often as is asked
 pub record Summed (c e p rounds : ℕ) (a b a' b' : List ℕ) : Type 0 where

@@ -1,46 +1,33 @@
 // The row operation and the product, many rounds of each, for a C program to time (bench/poly.c).
 #![tactic(auto)]
 
-ghost use Rattle.std.specs.Prelude.{◌≡◌, ◌+◌, ◌<◌, ◌≤◌, length};
-ghost use Rattle.poly.specs.residues.Modulus.{Ready};
+ghost use Rattle.std.specs.Prelude.{List, ℕ, ◌≡◌, ◌+◌, ◌<◌, ◌≤◌, length};
 ghost use Rattle.theory_lists.specs.Coefficients.{Coefficients};
 ghost use Rattle.poly.specs.arithmetic.Operations.{plus_multiple, ProductAsked, product_of};
-ghost use Rattle.poly_bench.specs.Rounds.{repeated, Summed, Added, Multiplied};
+ghost use Rattle.poly_bench.specs.Rounds.{repeated, TakesRounds, Summed, Added, Multiplied};
 
 use poly::{Modulus, Residue, arithmetic};
 
-fn add_rounds(a: &mut [u16], b: &[u16], c: Residue, e: usize, md: Modulus, rounds: u32)
-    requires ready { Ready md.p md.reciprocal × (c.0 < md.p) }
-    requires coefficients { Coefficients md.p a.old × Coefficients md.p b.now × (e + length b.now ≤ length a.old) }
-    ensures { a.new ≡ repeated rounds (plus_multiple md.p c.0 e b.now) a.old }
+// The step on the places of a, in one round after the other.
+fn repeat<F: Fn(&mut [u16])>(rounds: u32, a: &mut [u16], step: F)
+    ghost change: { List ℕ → List ℕ }
+    requires { TakesRounds (F.pre step) (λ p q. F.post step p tt q) rounds change a.old }
+    ensures { a.new ≡ repeated rounds change a.old }
 {
-    let mut i: u32 = 0;
-    while i < rounds {
-        arithmetic::add_multiple(a, b, c, e, md);
-        i += 1;
+    for _round in 0..rounds {
+        step(a);
     }
 }
 
 // Both are reduced modulo p first.
 fn add_reduced(a: &mut [u16], b: &mut [u16], c: u32, e: usize, md: Modulus, rounds: u32)
-    requires { Ready md.p md.reciprocal × (e + length b.old ≤ length a.old) }
+    requires { e + length b.old ≤ length a.old }
     ensures { Summed c e md.p rounds a.old b.old a.new b.new }
 {
     let f = Residue::of(c, md);
     arithmetic::scale(a, Residue::ONE, md);
     arithmetic::scale(b, Residue::ONE, md);
-    add_rounds(a, b, f, e, md, rounds);
-}
-
-fn product_rounds(a: &[u16], b: &[u16], out: &mut [u16], md: Modulus, rounds: u32)
-    requires { ProductAsked md.p md.reciprocal a.now b.now out.old }
-    ensures { out.new ≡ repeated rounds (product_of md.p a.now b.now) out.old }
-{
-    let mut i: u32 = 0;
-    while i < rounds {
-        arithmetic::product(a, b, out, md);
-        i += 1;
-    }
+    repeat(rounds, a, |x| arithmetic::add_multiple(x, b, f, e, md));
 }
 
 // a plus c·x^e times b, over and over. False where p or the lengths are refused.
@@ -91,6 +78,7 @@ pub extern "C" fn poly_bench_product(
     if out.len() + 1 < a.len() + b.len() {
         return false;
     }
-    product_rounds(a, b, out, Modulus::of(p), rounds);
+    let md = Modulus::of(p);
+    repeat(rounds, out, |x| arithmetic::product(a, b, x, md));
     true
 }
