@@ -1,20 +1,15 @@
 -- The answer of the single step, and what it promises.
-use Rattle.std.specs.Prelude.{List, ℕ}
+use Rattle.std.specs.Prelude.{List, ℕ, Result}
+use Rattle.std.specs.Result.{result_unwrap_or}
 use Rattle.matrix_promises.specs.Service.{Promise}
 use Rattle.matrix_promises.specs.Services.{ShortCall, StepOutcome, single_step}
-use Rattle.matrix_refusals.specs.Number.{number_of, place_of}
-use Rattle.matrix.specs.declared.single_step.StepAnswer.{StepAnswer}
-use Rattle.matrix.specs.declared.single_step.StepAnswer.TheVariants.{NotDone, Done}
+use Rattle.matrix_refusals.specs.Number.{answer_number, answer_place}
+use Rattle.matrix_refusals.specs.declared.Refusal.{Refusal}
 
--- the numbers of an answer: its number, its place and the count
-abbrev pub step_numbers_of : StepAnswer → ℕ × ℕ × ℕ
-step_numbers_of (NotDone x) = (number_of x, place_of x, 0)
-step_numbers_of (Done count) = (0, 0, count)
-
--- its outcome, where the result holds r at exit
-abbrev pub step_outcome_of : (r : List ℕ) → StepAnswer → StepOutcome
-step_outcome_of r x = let s = step_numbers_of x in record { count = s.2; r = r }
+-- the outcome of an answer, which has the count, where the result holds r at exit: "Rank and counts in a refusal are 0"
+abbrev pub step_outcome_of : (r : List ℕ) → Result ℕ Refusal → StepOutcome
+step_outcome_of r x = record { count = result_unwrap_or x 0; r = r }
 
 -- the promise of the single step, of an answer
-abbrev pub StepAnswered : (call : ShortCall) (r : List ℕ) → StepAnswer → Type 0
-StepAnswered call r x = let s = step_numbers_of x in Promise single_step call s.0 s.1 (step_outcome_of r x)
+abbrev pub StepAnswered : (call : ShortCall) (r : List ℕ) → Result ℕ Refusal → Type 0
+StepAnswered call r x = Promise single_step call (answer_number x) (answer_place x) (step_outcome_of r x)

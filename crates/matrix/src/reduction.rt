@@ -4,18 +4,16 @@ ghost use Rattle.matrix.specs.Asked.{WorkAsked};
 ghost use Rattle.matrix.specs.Reduction.{Answered};
 
 use matrix_reduction::{Reached, nonzero_rows};
-use matrix_refusals::{Check, Refusal, checks};
+use matrix_refusals::{Refusal, checks};
 use matrix_rows::write_identity;
 use poly::{Modulus, arithmetic};
 
-#[derive(Drop)]
-pub enum Answer {
-    NotDone(Refusal),
-    Done {
-        rank: usize,
-        count: u64,
-        rows: usize,
-    },
+// The rank, the count of the steps, and the list of the rows of R that are not zero, in which bit i - 1 stands for row i.
+#[derive(Clone, Copy, Debug, PartialEq, Eq)]
+pub struct Reduction {
+    pub rank: usize,
+    pub count: u64,
+    pub rows: usize,
 }
 
 // "U·A = R, V·R = A": the weak Popov form of the matrix in a, or a refusal that leaves every buffer as it was.
@@ -28,19 +26,17 @@ pub fn reduce(
     r: &mut [u16],
     u: &mut [u16],
     v: &mut [u16],
-) -> Answer
+) -> Result<Reduction, Refusal>
     ensures { Answered (record { p = p; n = n; m = m; d = d; a = a.now; r = r.old; u = u.old; v = v.old }) r.new u.new v.new result }
 {
-    if let Check::Refused(x) = checks::check_reduction(p, n, m, d, a, r.len(), u.len(), v.len()) {
-        return Answer::NotDone(x);
-    }
+    checks::check_reduction(p, n, m, d, a, r.len(), u.len(), v.len())?;
     let w = d + 1;
     let x = work(a, r, u, v, n, m, w, Modulus::of(p));
-    Answer::Done {
+    Ok(Reduction {
         rank: x.rank,
         count: x.count,
         rows: nonzero_rows::list(r, n, m, w),
-    }
+    })
 }
 
 // The reduction behind the checks: "U, which starts as the identity; V starts as the identity".

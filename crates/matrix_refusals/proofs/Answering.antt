@@ -3,12 +3,11 @@ use mathlib.Core.Path.{◌≡◌, refl, subst}
 use mathlib.Core.List.{List}
 use Prim.Native.Nat.{◌<◌}
 use native.Mathlib.Omega.{arith}
-use Rattle.matrix_refusals.specs.Number.{number_of, place_of, check_number, check_place}
+use Rattle.matrix_refusals.specs.Number.{number_of, place_of, answer_number, answer_place}
 use Rattle.matrix_promises.specs.Answering.{Rule, Told, Answering}
 use Rattle.matrix_refusals.specs.declared.Refusal.{Refusal}
 use Rattle.matrix_refusals.specs.declared.Refusal.TheVariants.{Modulus, Shape, Degree, Square, Length, Coefficient}
-use Rattle.matrix_refusals.specs.declared.Check.{Check}
-use Rattle.matrix_refusals.specs.declared.Check.TheVariants.{Refused}
+use Rattle.std.specs.Prelude.{Result, Err}
 
 -- no refusal has the number 0
 pub refusal-number : (x : Refusal) → 0 < number_of x
@@ -25,10 +24,10 @@ not_done x none = absurd (omega (arith, refusal-number x))
 
 module _ {table : List Rule} {Outcome : Type 0} {kept : Outcome} {Done : Type 0} where
   -- a refusal of the checks is an answer where nothing is touched
-  pub answer-refused : {c : Check} {x : Refusal} → c ≡ Refused x → Told table (check_number c) (check_place c)
+  pub answer-refused : {c : Result Unit Refusal} {x : Refusal} → c ≡ Err x → Told table (answer_number c) (answer_place c)
       → Answering table (number_of x) (place_of x) kept kept Done
   answer-refused {x = x} is told = record {
-    told = subst (λ (c : Check). Told table (check_number c) (check_place c)) is told;
+    told = subst (λ (c : Result Unit Refusal). Told table (answer_number c) (answer_place c)) is told;
     refused = λ some. refl;
     done = not_done x;
   }

@@ -1,10 +1,8 @@
--- The number and the place of each refusal, and of what the checks say, in the refusal tables (file Refused).
-use Rattle.std.specs.Prelude.{List, ℕ}
+-- The number and the place of each refusal, and of an answer that may be one, in the refusal tables (file Refused).
+use Rattle.std.specs.Prelude.{List, ℕ, ⊤, Result, Ok, Err}
 use Rattle.matrix_promises.specs.Answering.{Rule, Told}
 use Rattle.matrix_refusals.specs.declared.Refusal.{Refusal}
 use Rattle.matrix_refusals.specs.declared.Refusal.TheVariants.{Modulus, Shape, Degree, Square, Length, Coefficient}
-use Rattle.matrix_refusals.specs.declared.Check.{Check}
-use Rattle.matrix_refusals.specs.declared.Check.TheVariants.{Fine, Refused}
 
 abbrev pub number_of : Refusal → ℕ
 number_of Modulus = 1
@@ -22,14 +20,15 @@ place_of Square = 0
 place_of (Length k) = k
 place_of (Coefficient i) = i
 
-abbrev pub check_number : Check → ℕ
-check_number Fine = 0
-check_number (Refused x) = number_of x
+-- those of an answer, which has an error that is a refusal: both are 0 where it has none
+abbrev pub answer_number : {A : Type 0} → Result A Refusal → ℕ
+answer_number (Ok done) = 0
+answer_number (Err x) = number_of x
 
-abbrev pub check_place : Check → ℕ
-check_place Fine = 0
-check_place (Refused x) = place_of x
+abbrev pub answer_place : {A : Type 0} → Result A Refusal → ℕ
+answer_place (Ok done) = 0
+answer_place (Err x) = place_of x
 
 -- what checks say, by the rules that they look at
-abbrev pub Verdict : (table : List Rule) → Check → Type 0
-Verdict table c = Told table (check_number c) (check_place c)
+abbrev pub Verdict : (table : List Rule) → Result ⊤ Refusal → Type 0
+Verdict table c = Told table (answer_number c) (answer_place c)

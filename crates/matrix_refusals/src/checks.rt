@@ -1,104 +1,80 @@
 // Which calls are refused, and why: the checks in the paper's order. Nothing is written here, so that every buffer of a
-// refused call holds what it held.
-ghost use Rattle.std.specs.Prelude.{◌≡◌, true, ◌↔◌, ◌+◌, ◌*◌, ◌≤◌, [], ◌∷◌, length};
+// refused call holds what it held. Parameters come one by one, as programs in C pass them to the services.
+ghost use Rattle.std.specs.Prelude.{◌≡◌, true, ◌↔◌, ◌+◌, ◌*◌, ◌≤◌, ◌<◌, [], ◌∷◌, length, MatchOption};
 ghost use Rattle.matrix_refusals.specs.Number.{Verdict};
 ghost use Rattle.matrix_promises.specs.Refused.{FirstHigh, reduction_sizes, step_sizes};
 ghost use Rattle.matrix_promises.specs.Refused.{number_rules, length_rule, coefficient_rule, matrix_table, determinant_table};
 
-use crate::{Check, Refusal};
+use crate::Refusal;
 use poly::Modulus;
 
-// The index of the first coefficient that is p or more, or the number of places.
-fn first_high(a: &[u16], p: u32) -> usize
-    ensures { FirstHigh p a.now result }
+// The index of the first coefficient that is p or more.
+fn first_high(a: &[u16], p: u32) -> Option<usize>
+    ensures { MatchOption result (FirstHigh p a.now (length a.now)) (λ i. (i < length a.now) × FirstHigh p a.now i) }
 {
-    let mut i = 0;
-    while i < a.len() {
-        if p <= wide(a[i]) {
-            return i;
-        }
-        i += 1;
-    }
-    i
-}
-
-fn wide(x: u16) -> u32
-    ensures { result ≡ x }
-{
-    x as u32
+    a.iter().position(|x| p <= u32::from(*x))
 }
 
 // Refusals 1 to 3.
-pub fn check_numbers(p: u32, n: usize, m: usize, d: usize) -> Check
+pub fn check_numbers(p: u32, n: usize, m: usize, d: usize) -> Result<(), Refusal>
     ensures { Verdict (number_rules p n m d []) result }
 {
     if !Modulus::accepts(p) {
-        return Check::Refused(Refusal::Modulus);
+        return Err(Refusal::Modulus);
     }
-    if !one_to_eight(n) {
-        return Check::Refused(Refusal::Shape);
-    }
-    if !one_to_eight(m) {
-        return Check::Refused(Refusal::Shape);
+    if !one_to_eight(n) || !one_to_eight(m) {
+        return Err(Refusal::Shape);
     }
     if 63 < d {
-        return Check::Refused(Refusal::Degree);
+        return Err(Refusal::Degree);
     }
-    Check::Fine
+    Ok(())
 }
 
 // Whether a number of rows or columns is one of 1 to 8.
 fn one_to_eight(n: usize) -> bool
     ensures { (result ≡ true) ↔ ((1 ≤ n) × (n ≤ 8)) }
 {
-    if n == 0 {
-        return false;
-    }
-    n <= 8
+    (1..=8).contains(&n)
 }
 
 // Refusal 5 for the two buffers that every service has: input and result have a and r places, and should have `places` and `result`.
-fn check_lengths(a: usize, places: usize, r: usize, res: usize) -> Check
+fn check_lengths(a: usize, places: usize, r: usize, res: usize) -> Result<(), Refusal>
     ensures { Verdict (length_rule (a ∷ r ∷ []) (places ∷ res ∷ []) ∷ []) result }
 {
     if a != places {
-        return Check::Refused(Refusal::Length(1));
+        return Err(Refusal::Length(1));
     }
     if r != res {
-        return Check::Refused(Refusal::Length(2));
+        return Err(Refusal::Length(2));
     }
-    Check::Fine
+    Ok(())
 }
 
 // Refusals 1 to 3, and 5 for these two buffers, where the result is a matrix.
-fn check_matrix(p: u32, n: usize, m: usize, d: usize, a: usize, r: usize) -> Check
+fn check_matrix(p: u32, n: usize, m: usize, d: usize, a: usize, r: usize) -> Result<(), Refusal>
     ensures { Verdict (number_rules p n m d (length_rule (a ∷ r ∷ []) (step_sizes n m d) ∷ [])) result }
 {
-    if let Check::Refused(x) = check_numbers(p, n, m, d) {
-        return Check::Refused(x);
-    }
+    check_numbers(p, n, m, d)?;
     let places = n * (m * (d + 1));
     check_lengths(a, places, r, places)
 }
 
 // Refusal 6.
-pub fn check_coefficients(a: &[u16], p: u32) -> Check
+pub fn check_coefficients(a: &[u16], p: u32) -> Result<(), Refusal>
     ensures { Verdict (coefficient_rule p a.now ∷ []) result }
 {
-    let i = first_high(a, p);
-    if i < a.len() {
-        return Check::Refused(Refusal::Coefficient(i));
+    match first_high(a, p) {
+        Some(i) => Err(Refusal::Coefficient(i)),
+        None => Ok(()),
     }
-    Check::Fine
 }
 
 // The checks of the single step, whose result has r places.
-pub fn check_step(p: u32, n: usize, m: usize, d: usize, a: &[u16], r: usize) -> Check
+pub fn check_step(p: u32, n: usize, m: usize, d: usize, a: &[u16], r: usize) -> Result<(), Refusal>
     ensures { Verdict (matrix_table p n m d (length a.now ∷ r ∷ []) (step_sizes n m d) a.now) result }
 {
-    if let Check::Refused(x) = check_matrix(p, n, m, d, a.len(), r) {
-        return Check::Refused(x);
-    }
+    check_matrix(p, n, m, d, a.len(), r)?;
     check_coefficients(a, p)
 }
 
@@ -112,34 +88,35 @@ pub fn check_reduction(
     r: usize,
     u: usize,
     v: usize,
-) -> Check
+) -> Result<(), Refusal>
     ensures { Verdict (matrix_table p n m d (length a.now ∷ r ∷ u ∷ v ∷ []) (reduction_sizes n m d) a.now) result }
 {
-    if let Check::Refused(x) = check_matrix(p, n, m, d, a.len(), r) {
-        return Check::Refused(x);
-    }
+    check_matrix(p, n, m, d, a.len(), r)?;
     let cell = n * (d + 1);
     if u != n * (n * cell) {
-        return Check::Refused(Refusal::Length(3));
+        return Err(Refusal::Length(3));
     }
     if v != n * cell {
-        return Check::Refused(Refusal::Length(4));
+        return Err(Refusal::Length(4));
     }
     check_coefficients(a, p)
 }
 
 // The checks of the determinant, whose result has r places.
-pub fn check_determinant(p: u32, n: usize, m: usize, d: usize, a: &[u16], r: usize) -> Check
+pub fn check_determinant(
+    p: u32,
+    n: usize,
+    m: usize,
+    d: usize,
+    a: &[u16],
+    r: usize,
+) -> Result<(), Refusal>
     ensures { Verdict (determinant_table p n m d (length a.now ∷ r ∷ []) a.now) result }
 {
-    if let Check::Refused(x) = check_numbers(p, n, m, d) {
-        return Check::Refused(x);
-    }
+    check_numbers(p, n, m, d)?;
     if n != m {
-        return Check::Refused(Refusal::Square);
+        return Err(Refusal::Square);
     }
-    if let Check::Refused(x) = check_lengths(a.len(), n * (m * (d + 1)), r, n * d + 1) {
-        return Check::Refused(x);
-    }
+    check_lengths(a.len(), n * (m * (d + 1)), r, n * d + 1)?;
     check_coefficients(a, p)
 }

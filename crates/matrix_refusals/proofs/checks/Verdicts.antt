@@ -2,21 +2,18 @@
 use mathlib.Core.Path.{◌≡◌, refl, sym, ap, subst, ◌∙◌}
 use mathlib.Core.Logic.{◌≢◌, inl, inr}
 use mathlib.Core.List.{List, [], ◌∷◌, ◌++◌}
-use Prim.Native.Nat.{ℕ, zero, suc, ◌+◌, ◌*◌, ◌≤◌, ◌<◌}
-use native.Mathlib.Nat.{mul-add, mul-one}
+use Prim.Native.Nat.{ℕ, zero, suc, ◌+◌, ◌*◌, ◌<◌}
 use native.Mathlib.Omega.{arith}
 use lib.ListN.{length, get_or}
 use Rattle.poly.specs.residues.Modulus.{Ready}
 use Rattle.matrix_buffers.specs.Bounds.{Bounds, Checked}
-use Rattle.matrix_buffers.proofs.Bounds.{cell-few}
 use Rattle.matrix_promises.specs.Answering.{Rule, Told}
 use Rattle.matrix_refusals.specs.Number.{Verdict}
 use Rattle.matrix_promises.specs.Refused.{Numbers, FirstWrong, number_rules, length_rule}
 use Rattle.matrix_refusals.specs.declared.Refusal.{Refusal}
-use Rattle.matrix_refusals.specs.declared.Check.{Check}
-use Rattle.matrix_refusals.specs.declared.Check.TheVariants.{Fine, Refused}
+use Rattle.std.specs.Prelude.{Result, Ok, Err}
 use Rattle.matrix_refusals.proofs.Answering.{refusal-number}
-use Rattle.matrix_promises.proofs.Tables.{told-first, Numbered, told-then, in-range, InOrder, sized}
+use Rattle.matrix_promises.proofs.Tables.{told-first, in-range, InOrder, sized}
 
 -- the first buffer is wrong, or it is right and the first wrong one comes later
 pub wrong-here : (a x : ℕ) (given wanted : List ℕ) → a ≢ x → FirstWrong (a ∷ given) (x ∷ wanted) 1
@@ -56,7 +53,7 @@ wrong-of-more {a} {r} {x} {y} {given = given} {wanted} first =
     go (suc (suc i)) ne before = absurd (ne refl)
 
 -- so what is refused by the numbers and two lengths is refused by the numbers and all lengths
-of-more : {p n m d a r x y : ℕ} {given wanted : List ℕ} (further : List Rule) {k i : ℕ} → 0 < k
+pub of-more : {p n m d a r x y : ℕ} {given wanted : List ℕ} (further : List Rule) {k i : ℕ} → 0 < k
     → Told (number_rules p n m d (length_rule (a ∷ r ∷ []) (x ∷ y ∷ []) ∷ [])) k i
     → Told (number_rules p n m d (length_rule (a ∷ r ∷ given) (x ∷ y ∷ wanted) ∷ further)) k i
 of-more further some (inl f) = inl f
@@ -66,25 +63,15 @@ of-more further some (inr (modulus, inr (shape, inr (degree, inl (_, number, fir
     let more = wrong-of-more first in inr (modulus, inr (shape, inr (degree, inl (not-lengths more, number, more))))
 of-more further some (inr (modulus, inr (shape, inr (degree, inr (_, none))))) = absurd (omega (arith, none.0))
 
-pub verdict-of-more : {p n m d a r x y : ℕ} {given wanted : List ℕ} (further : List Rule) (c : Check) {e : Refusal} → c ≡ Refused e
-    → Verdict (number_rules p n m d (length_rule (a ∷ r ∷ []) (x ∷ y ∷ []) ∷ [])) c
-    → Verdict (number_rules p n m d (length_rule (a ∷ r ∷ given) (x ∷ y ∷ wanted) ∷ further)) (Refused e)
-verdict-of-more {p} {n} {m} {d} {a} {r} {x} {y} further c {e} is said = of-more further (refusal-number e)
-    (subst (Verdict (number_rules p n m d (length_rule (a ∷ r ∷ []) (x ∷ y ∷ []) ∷ []))) is said)
-
 -- ## The parts one after the other
 
-module _ (rules further : List Rule) {c : Check} (said : Verdict rules c) where
+module _ (rules further : List Rule) {c : Result Unit Refusal} (said : Verdict rules c) where
   -- what the first part of the checks refuses is refused
-  pub verdict-first : {x : Refusal} → c ≡ Refused x → Verdict (rules ++ further) (Refused x)
+  pub verdict-first : {x : Refusal} → c ≡ Err x → Verdict (rules ++ further) (Err x)
   verdict-first {x} is = told-first rules further _ _ (refusal-number x) (subst (Verdict rules) is said)
 
-  -- where it finds nothing, the others decide
-  pub verdict-then : (c' : Check) → Numbered rules → c ≡ Fine → Verdict further c' → Verdict (rules ++ further) c'
-  verdict-then c' some is told = told-then rules further 0 _ _ some (subst (Verdict rules) is said) told
-
 -- where the checks of the numbers find nothing, these are in range
-pub numbers-fine : {p n m d : ℕ} {c : Check} → c ≡ Fine → Verdict (number_rules p n m d []) c → Numbers p n m d
+pub numbers-fine : {p n m d : ℕ} {c : Result Unit Refusal} → c ≡ Ok tt → Verdict (number_rules p n m d []) c → Numbers p n m d
 numbers-fine {p} {n} {m} {d} is said = (in-range [] refl (subst (Verdict (number_rules p n m d [])) is said)).0
 
 -- so are n, m and d
@@ -97,10 +84,6 @@ in_bounds h = record {
   places = omega arith;
   places_most = omega (arith, h.degree);
 }
-
--- so the places of the determinant are few
-pub determinant-few : {p n m d : ℕ} → Numbers p n m d → n * d + n ≤ 512
-determinant-few {n = n} {d = d} h = omega (arith, cell-few (in_bounds h), mul-add n d 1, mul-one n)
 
 -- the input of a service whose checks have passed, or a copy of it, is a matrix that the work behind them can take
 pub checked : {p n m d : ℕ} {given wanted a : List ℕ}
