@@ -1,115 +1,112 @@
 // Reading the printer's input: its head, its cells, and the refusals in the paper's order.
 #![tactic(auto)]
 
-ghost use Rattle.std.specs.Prelude.{◌≡◌, length, drop};
+ghost use Rattle.std.specs.Prelude.{◌≡◌, length, IfErr};
+ghost use Rattle.std.specs.Result.{result_ok};
+ghost use Rattle.printer_format.specs.Line.{read_line};
 ghost use Rattle.printer_format.specs.File.{head_lines, cell_lines};
-ghost use Rattle.printer_reading.specs.Read.{CellsAsked};
-ghost use Rattle.printer_files.specs.Input.{HeadRead, MatrixRead, BodyAsked, BodyRead, FileRead};
+ghost use Rattle.printer_reading.specs.Read.{FieldRead, CellsAsked};
+ghost use Rattle.printer_files.specs.Input.{HeadRead, MatrixRead, BodyRead, FileRead};
+ghost use Rattle.printer_files.specs.declared.InputError.TheVariants.{Format, Refused};
 
-use matrix_refusals::{Check, Refusal, checks};
+use matrix_refusals::{Refusal, checks};
 use printer_format::keys;
-use printer_reading::{Cells, Number};
+use printer_reading::WrongCell;
 
-// What a text is read as: refusal 7 with its place, another refusal, or a matrix whose coefficients are in lent room.
-#[derive(Drop)]
-pub enum Input {
+// What the head lines say of the matrix: its modulus, its rows and columns, and its degree.
+#[derive(Clone, Copy, Debug, PartialEq, Eq)]
+pub struct Head {
+    pub p: u32,
+    pub n: usize,
+    pub m: usize,
+    pub d: usize,
+}
+
+// Why a text is refused: the first line that isn't as said, or 0 where the text is too long, or what is refused of its matrix.
+#[derive(Clone, Copy, Debug, PartialEq, Eq)]
+pub enum InputError {
     Format(usize),
     Refused(Refusal),
-    Matrix {
-        p: u32,
-        n: usize,
-        m: usize,
-        d: usize,
-    },
 }
 
-// The numbers of the head and the index after it, or the first line that isn't as said.
-#[derive(Drop)]
-enum Head {
-    Read {
-        p: u16,
-        n: u16,
-        m: u16,
-        d: u16,
-        next: usize,
-    },
-    Wrong(usize),
+impl From<Refusal> for InputError {
+    ghost from_gives = { λ x e. e ≡ Refused x };
+
+    fn from(x: Refusal) -> InputError {
+        InputError::Refused(x)
+    }
 }
 
-// The same of the lines after it.
-#[derive(Drop)]
-enum Body {
-    Read,
-    Wrong(usize),
+// The first line that isn't as said, counted from 1.
+#[derive(Clone, Copy)]
+struct WrongLine(usize);
+
+impl From<WrongLine> for InputError {
+    ghost from_gives = { λ x e. e ≡ Format x.0 };
+
+    fn from(x: WrongLine) -> InputError {
+        InputError::Format(x.0)
+    }
 }
 
-// The four head lines.
-fn read_head(s: &[u8]) -> Head
-    ensures { HeadRead (head_lines s.now) s.now result }
+// The head line with this number and key: what it says, and the text after it.
+fn head_line<'a>(s: &'a [u8], line: usize, key: &[u8]) -> Result<(u16, &'a [u8]), WrongLine>
+    ensures read { FieldRead (read_line key.now 1 s.now) (result_ok result) }
+    ensures wrong { IfErr result (λ e. e.0 ≡ line) }
 {
-    let Number::Read { value: p, next: i } = printer_reading::read_field(s, 0, &keys::MODULUS)
-    else {
-        return Head::Wrong(1);
+    printer_reading::read_field(s, key).ok_or(WrongLine(line))
+}
+
+// The four head lines, and the text after them.
+#[tactic(auto, unfolding(printer_format::specs::Line::read_lines))]
+fn read_head(s: &[u8]) -> Result<(Head, &[u8]), WrongLine>
+    ensures { HeadRead (head_lines s.now) result }
+{
+    let (p, rest) = head_line(s, 1, &keys::MODULUS)?;
+    let (n, rest) = head_line(rest, 2, &keys::ROWS)?;
+    let (m, rest) = head_line(rest, 3, &keys::COLUMNS)?;
+    let (d, rest) = head_line(rest, 4, &keys::DEGREE)?;
+    let head = Head {
+        p: u32::from(p),
+        n: usize::from(n),
+        m: usize::from(m),
+        d: usize::from(d),
     };
-    let Number::Read { value: n, next: j } = printer_reading::read_field(s, i, &keys::ROWS) else {
-        return Head::Wrong(2);
-    };
-    let Number::Read { value: m, next: k } = printer_reading::read_field(s, j, &keys::COLUMNS)
-    else {
-        return Head::Wrong(3);
-    };
-    let Number::Read { value: d, next } = printer_reading::read_field(s, k, &keys::DEGREE) else {
-        return Head::Wrong(4);
-    };
-    Head::Read { p, n, m, d, next }
+    Ok((head, rest))
 }
 
 // The cells, after which nothing may follow. The first of them is line 5.
-fn read_matrix(s: &[u8], at: usize, n: usize, m: usize, d: usize, room: &mut [u16]) -> Body
-    requires { CellsAsked s.now at n m d room.old }
-    ensures { MatrixRead (cell_lines n m d (drop at s.now)) room.new result }
+fn read_matrix(s: &[u8], head: Head, room: &mut [u16]) -> Result<(), WrongLine>
+    requires { CellsAsked head.n head.m head.d room.old }
+    ensures { MatrixRead (cell_lines head.n head.m head.d s.now) room.new result }
 {
-    match printer_reading::read_cells(s, at, n, m, d, room) {
-        Cells::Wrong(c) => Body::Wrong(5 + c),
-        Cells::Read(end) => {
-            if end < s.len() {
-                return Body::Wrong(5 + n * m);
-            }
-            Body::Read
-        }
+    match printer_reading::read_cells(s, head.n, head.m, head.d, room) {
+        Err(WrongCell(c)) => Err(WrongLine(5 + c)),
+        Ok([]) => Ok(()),
+        Ok(_) => Err(WrongLine(5 + head.n * head.m)),
     }
 }
 
 // All that follows the head, with the refusals in order.
-fn read_body(s: &[u8], at: usize, p: u32, n: usize, m: usize, d: usize, room: &mut [u16]) -> Input
-    requires { BodyAsked s.now at room.old }
-    ensures { BodyRead p n m d (drop at s.now) room.new result }
+fn read_body(s: &[u8], head: Head, room: &mut [u16]) -> Result<Head, InputError>
+    requires { length room.old ≡ 4096 }
+    ensures { BodyRead head s.now room.new result }
 {
-    if let Check::Refused(x) = checks::check_numbers(p, n, m, d) {
-        return Input::Refused(x);
-    }
-    let places = n * m * (d + 1);
-    if let Body::Wrong(line) = read_matrix(s, at, n, m, d, &mut room[..places]) {
-        return Input::Format(line);
-    }
-    if let Check::Refused(x) = checks::check_coefficients(&room[..places], p) {
-        return Input::Refused(x);
-    }
-    Input::Matrix { p, n, m, d }
+    checks::check_numbers(head.p, head.n, head.m, head.d)?;
+    let places = &mut room[..head.n * head.m * (head.d + 1)];
+    read_matrix(s, head, places)?;
+    checks::check_coefficients(places, head.p)?;
+    Ok(head)
 }
 
 // A whole text, whose coefficients go to the front of the room.
-pub fn read_file(s: &[u8], room: &mut [u16]) -> Input
+pub fn read_file(s: &[u8], room: &mut [u16]) -> Result<Head, InputError>
     requires { length room.old ≡ 4096 }
     ensures { FileRead s.now room.new result }
 {
     if 32768 < s.len() {
-        return Input::Format(0);
+        return Err(InputError::Format(0));
     }
-    match read_head(s) {
-        Head::Wrong(line) => Input::Format(line),
-        Head::Read { p, n, m, d, next } => read_body(
-            s, next, p as u32, n as usize, m as usize, d as usize, room,
-        ),
-    }
+    let (head, body) = read_head(s)?;
+    read_body(body, head, room)
 }

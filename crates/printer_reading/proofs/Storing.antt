@@ -2,77 +2,68 @@
 use Prim.Native.Nat.{ℕ, suc, ◌+◌, ◌*◌, ◌-◌, ◌≤◌, ◌<◌}
 use mathlib.Core.Path.{◌≡◌, sym, ap, ◌∙◌}
 use mathlib.Core.List.{List, ◌++◌, append-nil, append_assoc}
-use native.Mathlib.Nat.{sub-zero, suc-mul, zero-mul}
+use native.Mathlib.Nat.{suc-mul}
 use native.Mathlib.Numerals.{add-one}
 use native.Mathlib.Omega.{arith}
 use lib.ListN.{length, take, drop, length-append, length-take, length-drop}
 use lib.Seq.{take_all, take_at}
 use Rattle.theory_lists.proofs.Grid.{line-end}
-use Rattle.printer_format.specs.Number.{Got, bad}
-use Rattle.printer_format.specs.Line.{behind, read_lines}
-use Rattle.printer_format.proofs.Line.{behind-nil, behind-append, lines_next, lines-wrong}
-use Rattle.printer_reading.specs.Read.{Took, TookCells, Missed}
+use Rattle.printer_format.specs.Number.{Got, got, bad}
+use Rattle.printer_format.specs.Line.{read, wrong, behind, read_lines}
+use Rattle.printer_format.proofs.Line.{behind-append, lines_next, lines-wrong}
 
-module _ (reader : ℕ → List ℕ → Got (List ℕ)) (s : List ℕ) (at count width : ℕ) where
-  -- the numbers of the first c of count lines stand in the room up to place a, and the others are read from index i on
-  pub record Storing (i c a : ℕ) (room : List ℕ) : Type 0 where
+module _ (reader : ℕ → List ℕ → Got (List ℕ)) (s : List ℕ) (count width : ℕ) where
+  -- the numbers of the first c of count lines stand in the room, and the others are read from what is left
+  pub record Storing (c : ℕ) (rest room : List ℕ) : Type 0 where
     pub size : length room ≡ count * width
-    pub to : c ≤ count
-    pub place : a ≡ c * width
-    pub inside : i ≤ length s
-    pub same : read_lines reader count 0 (drop at s) ≡ behind (take a room) (read_lines reader (count - c) c (drop i s))
+    pub same : read_lines reader count 0 s ≡ behind (take (c * width) room) (read_lines reader (count - c) c rest)
 
-  pub storing-start : (room : List ℕ) → length room ≡ count * width → at ≤ length s → Storing at 0 0 room
-  storing-start room size inside =
-      record { size = size; to = omega arith; place = sym (zero-mul width); inside = inside; same = rw sub-zero (sym (behind-nil _)) }
+  module _ (c : ℕ) (rest room : List ℕ) (r : Storing c rest room) where
+    -- where the numbers of line c have their places
+    abbrev at : ℕ
+    at = c * width
 
-  module _ (i c a : ℕ) (room : List ℕ) (r : Storing i c a room) where
-    pub storing-end : count ≤ c → TookCells (read_lines reader count 0 (drop at s)) s room i
+    pub storing-end : c ≡ count → read_lines reader count 0 s ≡ read room rest
     unfolding read_lines
-    storing-end h =
-        let none : count - c ≡ 0 = omega (arith, r.to) in
-        let all : c ≡ count = omega (arith, r.to) in
-        let full : a ≡ count * width = r.place ∙ ap (λ (x : ℕ). x * width) all in
-        record { is = r.same ∙ rw (none, take_all a room (omega (arith, r.size))) (rw append-nil); inside = r.inside }
+    storing-end all =
+        let none : count - c ≡ 0 = omega arith in
+        r.same ∙ rw (none, take_all at room (rw all (omega (arith, r.size)))) (rw append-nil)
 
     module _ (before : c < count) where
       left : count - c ≡ suc (count - (c + 1))
       left = omega arith
 
       -- the next line's numbers have their places
-      pub storing-room : a + width ≤ length room
-      storing-room = omega (arith, r.place, r.size, line-end c count width before)
+      pub storing-room : at + width ≤ length room
+      storing-room = omega (arith, r.size, line-end c count width before)
 
-      pub storing-part : length (take (a + width - a) (drop a room)) ≡ width
+      pub storing-part : length (take (at + width - at) (drop at room)) ≡ width
       storing-part = simp (length-take, length-drop) (omega (arith, storing-room))
 
-      pub storing-wrong : reader c (drop i s) ≡ bad → Missed (read_lines reader count 0 (drop at s)) count c
-      storing-wrong e = record { is = r.same ∙ rw (left, lines-wrong reader _ c _ e); within = before }
+      pub storing-wrong : reader c rest ≡ bad → read_lines reader count 0 s ≡ wrong c
+      storing-wrong e = r.same ∙ rw (left, lines-wrong reader _ c _ e)
 
       -- the next line was read into its part of the room, as which `new` comes back
-      module _ (new : List ℕ) (many : length new ≡ length (take (a + width - a) (drop a room))) where
-        abbrev rest : List ℕ
-        rest = drop (a + width - a) (drop a room)
+      module _ (new : List ℕ) (many : length new ≡ length (take (at + width - at) (drop at room))) where
+        abbrev others_room : List ℕ
+        others_room = drop (at + width - at) (drop at room)
 
         new-width : length new ≡ width
         new-width = many ∙ storing-part
 
-        pub storing-size : length (take a room ++ (new ++ rest)) ≡ count * width
-        storing-size = simp (length-append, length-take, length-drop) (omega (arith, new-width, storing-room, r.size))
-
-        pub storing-turn : (next : ℕ) → Took (reader c (drop i s)) s new next → Storing next (c + 1) (a + width) (take a room ++ (new ++ rest))
-        storing-turn next took =
-            let front : length (take a room ++ new) ≡ a + width = simp (length-append, length-take) (omega (arith, new-width, storing-room)) in
-            let more : take a room ++ new ≡ take (a + width) (take a room ++ (new ++ rest)) =
-            sym (ap (take (a + width)) (sym (append_assoc (take a room) new rest)) ∙ take_at (take a room ++ new) rest (a + width) front) in
-            let others = read_lines reader (count - (c + 1)) (c + 1) (drop next s) in
-            let here : read_lines reader (count - c) c (drop i s) ≡ behind new others =
-            rw (left, add-one) (lines_next reader _ c _ new (drop next s) took.is) in
+        pub storing-turn : (next : List ℕ) → reader c rest ≡ got new next → Storing (c + 1) next (take at room ++ (new ++ others_room))
+        storing-turn next e =
+            let place : (c + 1) * width ≡ at + width = omega (arith, suc-mul c width, add-one c) in
+            let front : length (take at room ++ new) ≡ at + width =
+            simp (length-append, length-take) (omega (arith, new-width, storing-room)) in
+            let more : take at room ++ new ≡ take ((c + 1) * width) (take at room ++ (new ++ others_room)) =
+            sym (rw place (ap (take (at + width)) (sym (append_assoc (take at room) new others_room))
+            ∙ take_at (take at room ++ new) others_room (at + width) front)) in
+            let others = read_lines reader (count - (c + 1)) (c + 1) next in
+            let here : read_lines reader (count - c) c rest ≡ behind new others =
+            rw (left, add-one) (lines_next reader _ c _ new next e) in
             record {
-              size = storing-size;
-              to = omega arith;
-              place = omega (arith, r.place, suc-mul c width, add-one c);
-              inside = took.inside;
-              same = r.same ∙ ap (behind (take a room)) here ∙ sym (behind-append (take a room) new others)
+              size = simp (length-append, length-take, length-drop) (omega (arith, new-width, storing-room, r.size));
+              same = r.same ∙ ap (behind (take at room)) here ∙ sym (behind-append (take at room) new others)
                   ∙ ap (λ (l : List ℕ). behind l others) more;
             }

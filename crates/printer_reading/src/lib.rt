@@ -1,214 +1,128 @@
-// Reading at an index of a text: numbers, lines and the cells of a matrix. What is read of a line goes into lent room, which
-// has a place for each number that the line should have.
+// Reading at the front of a text: numbers, lines and the cells of a matrix. Each reader answers the text that is left. What is read
+// of a line goes into lent room, which has a place for each number that the line should have.
 #![tactic(auto)]
 
-ghost use Rattle.std.specs.Prelude.{◌≡◌, [], ◌∷◌, ◌+◌, ◌*◌, ◌≤◌, length, drop};
+ghost use Rattle.std.specs.Prelude.{◌≡◌, [], ◌∷◌, ◌*◌, ◌≤◌, ◌<◌, length, drop, IfErr};
+ghost use Rattle.std.specs.List.{prefix_len, AllPass};
 ghost use Rattle.printer_format.specs.Number.{is_digit, digits_of, value_of, is_plain, number};
-ghost use Rattle.printer_format.specs.Line.{mark, starts_with, numbers, read_line};
+ghost use Rattle.printer_format.specs.Line.{mark, numbers, read_line};
 ghost use Rattle.printer_format.specs.File.{matrix_lines};
-ghost use Rattle.printer_reading.specs.Read.{DigitsAt, NumberRead, LineRead, FieldRead, CellsAsked, CellsRead};
+ghost use Rattle.printer_reading.specs.Read.{NumberRead, LineRead, FieldRead, CellsAsked, CellsRead};
 
 use printer_format::keys;
 
-// What stands at an index, and the index after it.
-#[derive(Drop)]
-pub enum Number {
-    Read { value: u16, next: usize },
-    Bad,
-}
+// The first cell, counted from 0, whose line isn't as said.
+#[derive(Clone, Copy, Debug, PartialEq, Eq)]
+pub struct WrongCell(pub usize);
 
-// The index after a line whose numbers are in the lent room.
-#[derive(Drop)]
-pub enum Line {
-    Read(usize),
-    Bad,
-}
-
-// The index after the lines of all cells, or the first cell, counted from 0, whose line isn't as said.
-#[derive(Drop)]
-pub enum Cells {
-    Read(usize),
-    Wrong(usize),
-}
-
-fn zero_to_nine(b: u8) -> bool
-    ensures { result ≡ is_digit b }
+// How many digits stand at the front of a text.
+fn count_digits(s: &[u8]) -> usize
+    ensures { result ≡ prefix_len is_digit s.now }
 {
-    if b < b'0' {
-        return false;
-    }
-    b <= b'9'
+    s.iter().take_while(|b| b.is_ascii_digit()).count()
 }
 
-// The index after the digits that stand at an index.
-fn digits_end(s: &[u8], at: usize) -> usize
-    requires { at ≤ length s.now }
-    ensures { result ≡ at + length (digits_of (drop at s.now)) }
+// The digits that a text begins with, and what follows them.
+fn split_digits(s: &[u8]) -> (&[u8], &[u8])
+    ensures word { result.0.now ≡ digits_of s.now }
+    ensures rest { result.1.now ≡ drop (length (digits_of s.now)) s.now }
+    ensures digits { AllPass is_digit result.0.now }
 {
-    let mut i = at;
-    while i < s.len() {
-        if !zero_to_nine(s[i]) {
-            return i;
-        }
-        i += 1;
-    }
-    i
+    s.split_at(count_digits(s))
 }
 
-// Whether n digits have no needless zero in front.
-fn no_zero_in_front(s: &[u8], at: usize, n: usize) -> bool
-    requires { DigitsAt s.now at n }
-    ensures { result ≡ is_plain (digits_of (drop at s.now)) }
+// Whether digits have no needless zero in front.
+fn no_zero_in_front(w: &[u8]) -> bool
+    requires { 1 ≤ length w.now }
+    ensures { result ≡ is_plain w.now }
 {
-    if n == 1 {
-        return true;
-    }
-    b'0' < s[at]
+    w.len() == 1 || b'0' < w[0]
 }
 
-// What n digits stand for.
-fn from_decimal(s: &[u8], at: usize, n: usize) -> u32
-    requires { DigitsAt s.now at n }
-    ensures { result ≡ value_of (digits_of (drop at s.now)) }
+// What digits stand for.
+fn from_decimal(w: &[u8]) -> u32
+    requires few { length w.now ≤ 5 }
+    requires digits { AllPass is_digit w.now }
+    ensures { result ≡ value_of w.now }
 {
     let mut v: u32 = 0;
-    let mut k = 0;
-    while k < n {
-        let b = s[at + k];
-        v = v * 10 + wide(b - b'0');
-        k += 1;
+    for b in w {
+        v = v * 10 + u32::from(*b - b'0');
     }
     v
 }
 
-fn wide(b: u8) -> u32
-    ensures { result ≡ b }
-{
-    b as u32
-}
-
 // "Numbers have 1 to 5 digits, a value up to 65,535, and no needless leading zero; 0 itself is written 0."
-fn read_number(s: &[u8], at: usize) -> Number
-    requires { at ≤ length s.now }
-    ensures { NumberRead (number (drop at s.now)) s.now result }
+fn read_number(s: &[u8]) -> Option<(u16, &[u8])>
+    ensures { NumberRead (number s.now) result }
 {
-    let end = digits_end(s, at);
-    let n = end - at;
-    if n < 1 {
-        return Number::Bad;
+    let (w, rest) = split_digits(s);
+    if w.is_empty() || 5 < w.len() || !no_zero_in_front(w) {
+        return None;
     }
-    if 5 < n {
-        return Number::Bad;
-    }
-    if !no_zero_in_front(s, at, n) {
-        return Number::Bad;
-    }
-    let v = from_decimal(s, at, n);
-    if 65535 < v {
-        return Number::Bad;
-    }
-    Number::Read {
-        value: v as u16,
-        next: end,
-    }
+    let value = u16::try_from(from_decimal(w)).ok()?;
+    Some((value, rest))
 }
 
-// Whether a key stands at an index.
-fn stands_at(s: &[u8], at: usize, key: &[u8]) -> bool
-    requires { at ≤ length s.now }
-    ensures { result ≡ starts_with key.now (drop at s.now) }
+// What follows a number after which so many others are left.
+fn mark_of(left: usize) -> &'static [u8]
+    ensures { result.now ≡ mark left ∷ [] }
 {
-    if s.len() - at < key.len() {
-        return false;
-    }
-    let mut i = 0;
-    while i < key.len() {
-        if s[at + i] != key[i] {
-            return false;
-        }
-        i += 1;
-    }
-    true
-}
-
-// Whether the mark of a number stands at an index, where further numbers are left.
-fn is_marked(s: &[u8], at: usize, left: usize) -> bool
-    requires { at ≤ length s.now }
-    ensures { result ≡ starts_with (mark left ∷ []) (drop at s.now) }
-{
-    if left == 0 {
-        return stands_at(s, at, b"\n");
-    }
-    stands_at(s, at, b" ")
+    if left == 0 { b"\n" } else { b" " }
 }
 
 // As many numbers as the room has places, each with its mark.
-fn read_numbers(s: &[u8], at: usize, room: &mut [u16]) -> Line
-    requires { at ≤ length s.now }
-    ensures { LineRead (numbers (length room.old) (drop at s.now)) s.now room.new result }
+fn read_numbers<'a>(s: &'a [u8], room: &mut [u16]) -> Option<&'a [u8]>
+    ensures { LineRead (numbers (length room.old) s.now) room.new result }
 {
     let count = room.len();
-    let mut i = at;
-    let mut k = 0;
-    while k < count {
-        let Number::Read { value, next } = read_number(s, i) else {
-            return Line::Bad;
-        };
-        if !is_marked(s, next, count - k - 1) {
-            return Line::Bad;
-        }
-        room[k] = value;
-        i = next + 1;
-        k += 1;
+    let mut rest = s;
+    for (k, place) in room.iter_mut().enumerate() {
+        let (value, after) = read_number(rest)?;
+        *place = value;
+        rest = after.strip_prefix(mark_of(count - k - 1))?;
     }
-    Line::Read(i)
+    Some(rest)
 }
 
 // A line with this key and as many numbers as the room has places.
-fn take_line(s: &[u8], at: usize, key: &[u8], room: &mut [u16]) -> Line
-    requires { at ≤ length s.now }
-    ensures { LineRead (read_line key.now (length room.old) (drop at s.now)) s.now room.new result }
+fn take_line<'a>(s: &'a [u8], key: &[u8], room: &mut [u16]) -> Option<&'a [u8]>
+    ensures { LineRead (read_line key.now (length room.old) s.now) room.new result }
 {
-    if !stands_at(s, at, key) {
-        return Line::Bad;
-    }
-    read_numbers(s, at + key.len(), room)
+    read_numbers(s.strip_prefix(key)?, room)
 }
 
 // A line with this key and one number.
-pub fn read_field(s: &[u8], at: usize, key: &[u8]) -> Number
-    requires { at ≤ length s.now }
-    ensures { FieldRead (read_line key.now 1 (drop at s.now)) s.now result }
+pub fn read_field<'a>(s: &'a [u8], key: &[u8]) -> Option<(u16, &'a [u8])>
+    ensures { FieldRead (read_line key.now 1 s.now) result }
 {
     let mut room = [0u16; 1];
-    let Line::Read(next) = take_line(s, at, key, &mut room) else {
-        return Number::Bad;
-    };
-    Number::Read {
-        value: room[0],
-        next,
-    }
+    let rest = take_line(s, key, &mut room)?;
+    Some((room[0], rest))
 }
 
 // The lines of an n by m matrix, up to the first that isn't as said.
-pub fn read_cells(s: &[u8], at: usize, n: usize, m: usize, d: usize, room: &mut [u16]) -> Cells
-    requires { CellsAsked s.now at n m d room.old }
-    ensures { CellsRead (matrix_lines n m d (drop at s.now)) (n * m) s.now room.new result }
+pub fn read_cells<'a>(
+    s: &'a [u8],
+    n: usize,
+    m: usize,
+    d: usize,
+    room: &mut [u16],
+) -> Result<&'a [u8], WrongCell>
+    requires { CellsAsked n m d room.old }
+    ensures lines { CellsRead (matrix_lines n m d s.now) room.new result }
+    ensures cell { IfErr result (λ e. e.0 < n * m) }
 {
-    let count = n * m;
     let width = d + 1;
-    let mut i = at;
-    let mut c = 0;
-    let mut a = 0;
-    while c < count {
+    let mut rest = s;
+    // by index: a proof does not know the elements after a loop over `chunks_exact_mut`
+    for c in 0..n * m {
         let key = keys::key_of_cell(keys::INPUT, m, c);
-        let e = a + width;
-        let Line::Read(next) = take_line(s, i, &key, &mut room[a..e]) else {
-            return Cells::Wrong(c);
+        let a = c * width;
+        let Some(after) = take_line(rest, &key, &mut room[a..a + width]) else {
+            return Err(WrongCell(c));
         };
-        i = next;
-        c += 1;
-        a = e;
+        rest = after;
     }
-    Cells::Read(i)
+    Ok(rest)
 }
