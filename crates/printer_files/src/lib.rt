@@ -84,10 +84,10 @@ fn head_line<'a>(s: &'a [u8], line: usize, key: &[u8]) -> Result<(u16, &'a [u8])
 fn read_head(s: &[u8]) -> Result<(Head, &[u8]), WrongLine>
     ensures { HeadRead (head_lines s.now) result }
 {
-    let (p, rest) = head_line(s, 1, &keys::MODULUS)?;
-    let (n, rest) = head_line(rest, 2, &keys::ROWS)?;
-    let (m, rest) = head_line(rest, 3, &keys::COLUMNS)?;
-    let (d, rest) = head_line(rest, 4, &keys::DEGREE)?;
+    let (p, rest) = head_line(s, 1, keys::MODULUS)?;
+    let (n, rest) = head_line(rest, 2, keys::ROWS)?;
+    let (m, rest) = head_line(rest, 3, keys::COLUMNS)?;
+    let (d, rest) = head_line(rest, 4, keys::DEGREE)?;
     let head = Head {
         p: u32::from(p),
         n: usize::from(n),

@@ -3,15 +3,11 @@ use Prim.Native.Nat.{ℕ, suc}
 use mathlib.Core.Path.{◌≡◌, refl, ap}
 use mathlib.Core.Bool.{true, false}
 use mathlib.Core.List.{List, [], ◌∷◌, ◌++◌, append_assoc}
-use lib.ListN.{length, drop}
+use lib.ListN.{drop}
 use Rattle.printer_format.specs.Number.{Got, got, bad, number}
-use Rattle.printer_format.specs.Line.{mark, starts_with, prefixed, numbers, read_line, Lines, read, wrong, behind, read_lines}
+use Rattle.printer_format.specs.Line.{mark, starts_with, prefixed, numbers, Lines, read, wrong, behind, read_lines}
 
 -- ## Numbers
-
-pub prefixed-nil : (g : Got (List ℕ)) → prefixed [] g ≡ g
-prefixed-nil (got l s) = refl
-prefixed-nil bad = refl
 
 pub prefixed-append : (k l : List ℕ) (g : Got (List ℕ)) → prefixed (k ++ l) g ≡ prefixed k (prefixed l g)
 prefixed-append k l (got m s) = ap (λ (x : List ℕ). got x s) (append_assoc k l m)
@@ -32,23 +28,7 @@ module _ (left : ℕ) (s : List ℕ) where
     unfolding numbers
     numbers-next m = rw e (rw m)
 
--- ## A line
-
-module _ (key : List ℕ) (count : ℕ) (s : List ℕ) where
-  pub line-bad : starts_with key s ≡ false → read_line key count s ≡ bad
-  unfolding read_line
-  line-bad e = rw e
-
-  -- the key is passed
-  pub line_on : starts_with key s ≡ true → read_line key count s ≡ numbers count (drop (length key) s)
-  unfolding read_line
-  line_on e = rw e
-
 -- ## Lines
-
-pub behind-nil : (x : Lines) → behind [] x ≡ x
-behind-nil (read l s) = refl
-behind-nil (wrong c) = refl
 
 pub behind-append : (k l : List ℕ) (x : Lines) → behind (k ++ l) x ≡ behind k (behind l x)
 behind-append k l (read m s) = ap (λ (x : List ℕ). read x s) (append_assoc k l m)

@@ -1,14 +1,13 @@
 -- The laws of numbers in a text.
 use Prim.Native.Nat.{ℕ, zero, suc, ◌/◌, ◌%◌, ◌^◌, ◌≤◌, ◌<◌}
 use mathlib.Core.Path.{◌≡◌, ap}
-use mathlib.Core.Bool.{true, false}
 use mathlib.Core.List.{List, [], ◌∷◌, ◌++◌}
 use native.Mathlib.Omega.{arith}
 use native.Mathlib.Nat.{div-lt_self, div-lt_iff_lt-mul, not-suc-le-zero, pow-suc}
-use lib.ListN.{length, drop, length-append}
-use borrow.Author.Tests.{le-leb, lt-leb, lt-ltb, le-ltb}
+use lib.ListN.{length, length-append}
+use borrow.Author.Tests.{lt-ltb, le-ltb}
 use Rattle.theory_algebra.proofs.Cases.{case-le}
-use Rattle.printer_format.specs.Number.{digit, decimal_by, decimal, got, bad, is_digit, digits_of, value_of, is_plain, is_number, number}
+use Rattle.printer_format.specs.Number.{digit, decimal_by, decimal}
 
 -- ## A number in decimal
 
@@ -49,47 +48,3 @@ five-digits v h = few-digits 4 v (omega arith)
 -- a number of 64 bits
 pub twenty-digits : (v : ℕ) → v < 18446744073709551616 → length (decimal v) ≤ 20
 twenty-digits v h = few-digits 19 v (omega arith)
-
--- ## The digits that a text begins with
-
-pub digits_more : (b : ℕ) (s : List ℕ) → is_digit b ≡ true → digits_of (b ∷ s) ≡ b ∷ digits_of s
-unfolding digits_of
-digits_more b s e = simp e
-
-pub digits-none : (b : ℕ) (s : List ℕ) → is_digit b ≡ false → digits_of (b ∷ s) ≡ []
-unfolding digits_of
-digits-none b s e = simp e
-
--- ## Whether digits are a number, by the first test that fails
-
-module _ (w : List ℕ) where
-  pub too_few : length w < 1 → is_number w ≡ false
-  unfolding is_number
-  too_few h = simp (lt-leb 1 (length w) h)
-
-  module _ (some : 1 ≤ length w) where
-    pub too_many : 5 < length w → is_number w ≡ false
-    unfolding is_number
-    too_many h = simp (le-leb 1 (length w) some, lt-leb (length w) 5 h)
-
-    module _ (few : length w ≤ 5) where
-      pub needless-zero : is_plain w ≡ false → is_number w ≡ false
-      unfolding is_number
-      needless-zero e = simp (le-leb 1 (length w) some, le-leb (length w) 5 few, e)
-
-      module _ (plain : is_plain w ≡ true) where
-        pub too-great : 65535 < value_of w → is_number w ≡ false
-        unfolding is_number
-        too-great h = simp (le-leb 1 (length w) some, le-leb (length w) 5 few, plain, lt-leb (value_of w) 65535 h)
-
-        pub is-number : value_of w ≤ 65535 → is_number w ≡ true
-        unfolding is_number
-        is-number h = simp (le-leb 1 (length w) some, le-leb (length w) 5 few, plain, le-leb (value_of w) 65535 h)
-
-pub number-bad : (s : List ℕ) → is_number (digits_of s) ≡ false → number s ≡ bad
-unfolding number
-number-bad s e = simp e
-
-pub number-got : (s : List ℕ) → is_number (digits_of s) ≡ true → number s ≡ got (value_of (digits_of s)) (drop (length (digits_of s)) s)
-unfolding number
-number-got s e = simp e

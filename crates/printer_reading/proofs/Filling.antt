@@ -25,9 +25,9 @@ abbrev pub Filling : (s : List ℕ) (count k : ℕ) (rest room : List ℕ) → T
 Filling s count k rest room = numbers count s ≡ prefixed (take k room) (numbers (count - k) rest)
 
 module _ (s : List ℕ) (count k : ℕ) (rest room : List ℕ) (r : Filling s count k rest room) where
-  pub filling-end : length room ≡ count → count ≤ k → numbers count s ≡ got room rest
+  pub filling_end : length room ≡ count → count ≤ k → numbers count s ≡ got room rest
   unfolding numbers
-  filling-end size h =
+  filling_end size h =
       let none : count - k ≡ 0 = omega arith in
       r ∙ rw (none, take_all k room (omega arith)) (rw append-nil)
 
@@ -35,16 +35,16 @@ module _ (s : List ℕ) (count k : ℕ) (rest room : List ℕ) (r : Filling s co
     left : count - k ≡ suc (count - k - 1)
     left = omega arith
 
-    pub filling-bad : number rest ≡ bad → numbers count s ≡ bad
-    filling-bad e = r ∙ rw (left, numbers-bad _ _ e)
+    pub filling_bad : number rest ≡ bad → numbers count s ≡ bad
+    filling_bad e = r ∙ rw (left, numbers-bad _ _ e)
 
     module _ (v : ℕ) (after : List ℕ) (e : number rest ≡ got v after) where
-      pub filling-unmarked : (m : List ℕ) → m ≡ mark (count - k - 1) ∷ [] → pointwise eqb (take (length m) after) m ≡ false → numbers count s ≡ bad
-      filling-unmarked m is h = r ∙ rw (left, numbers-unmarked _ _ _ _ e (rw is at (sym (strips m after) ∙ h)))
+      pub filling_unmarked : (m : List ℕ) → m ≡ mark (count - k - 1) ∷ [] → pointwise eqb (take (length m) after) m ≡ false → numbers count s ≡ bad
+      filling_unmarked m is h = r ∙ rw (left, numbers-unmarked _ _ _ _ e (rw is at (sym (strips m after) ∙ h)))
 
-      pub filling-turn : length room ≡ count → (m : List ℕ) → m ≡ mark (count - k - 1) ∷ [] → pointwise eqb (take (length m) after) m ≡ true
+      pub filling_turn : length room ≡ count → (m : List ℕ) → m ≡ mark (count - k - 1) ∷ [] → pointwise eqb (take (length m) after) m ≡ true
           → Filling s count (k + 1) (drop (length m) after) (set room k v)
-      filling-turn size m is h =
+      filling_turn size m is h =
           let one_less : count - k - 1 ≡ count - (k + 1) = omega arith in
           let others = numbers (count - (k + 1)) (drop 1 after) in
           let here : numbers (count - k) rest ≡ prefixed (v ∷ []) others =

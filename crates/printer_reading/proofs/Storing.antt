@@ -23,9 +23,9 @@ module _ (reader : ℕ → List ℕ → Got (List ℕ)) (s : List ℕ) (count wi
     abbrev at : ℕ
     at = c * width
 
-    pub storing-end : c ≡ count → read_lines reader count 0 s ≡ read room rest
+    pub storing_end : c ≡ count → read_lines reader count 0 s ≡ read room rest
     unfolding read_lines
-    storing-end all =
+    storing_end all =
         let none : count - c ≡ 0 = omega arith in
         r.same ∙ rw (none, take_all at room (rw all (omega (arith, r.size)))) (rw append-nil)
 
@@ -34,14 +34,14 @@ module _ (reader : ℕ → List ℕ → Got (List ℕ)) (s : List ℕ) (count wi
       left = omega arith
 
       -- the next line's numbers have their places
-      pub storing-room : at + width ≤ length room
-      storing-room = omega (arith, r.size, line-end c count width before)
+      pub storing_room : at + width ≤ length room
+      storing_room = omega (arith, r.size, line-end c count width before)
 
-      pub storing-part : length (take (at + width - at) (drop at room)) ≡ width
-      storing-part = simp (length-take, length-drop) (omega (arith, storing-room))
+      pub storing_part : length (take (at + width - at) (drop at room)) ≡ width
+      storing_part = simp (length-take, length-drop) (omega (arith, storing_room))
 
-      pub storing-wrong : reader c rest ≡ bad → read_lines reader count 0 s ≡ wrong c
-      storing-wrong e = r.same ∙ rw (left, lines-wrong reader _ c _ e)
+      pub storing_wrong : reader c rest ≡ bad → read_lines reader count 0 s ≡ wrong c
+      storing_wrong e = r.same ∙ rw (left, lines-wrong reader _ c _ e)
 
       -- the next line was read into its part of the room, as which `new` comes back
       module _ (new : List ℕ) (many : length new ≡ length (take (at + width - at) (drop at room))) where
@@ -49,13 +49,13 @@ module _ (reader : ℕ → List ℕ → Got (List ℕ)) (s : List ℕ) (count wi
         others_room = drop (at + width - at) (drop at room)
 
         new-width : length new ≡ width
-        new-width = many ∙ storing-part
+        new-width = many ∙ storing_part
 
-        pub storing-turn : (next : List ℕ) → reader c rest ≡ got new next → Storing (c + 1) next (take at room ++ (new ++ others_room))
-        storing-turn next e =
+        pub storing_turn : (next : List ℕ) → reader c rest ≡ got new next → Storing (c + 1) next (take at room ++ (new ++ others_room))
+        storing_turn next e =
             let place : (c + 1) * width ≡ at + width = omega (arith, suc-mul c width, add-one c) in
             let front : length (take at room ++ new) ≡ at + width =
-            simp (length-append, length-take) (omega (arith, new-width, storing-room)) in
+            simp (length-append, length-take) (omega (arith, new-width, storing_room)) in
             let more : take at room ++ new ≡ take ((c + 1) * width) (take at room ++ (new ++ others_room)) =
             sym (rw place (ap (take (at + width)) (sym (append_assoc (take at room) new others_room))
             ∙ take_at (take at room ++ new) others_room (at + width) front)) in
@@ -63,7 +63,7 @@ module _ (reader : ℕ → List ℕ → Got (List ℕ)) (s : List ℕ) (count wi
             let here : read_lines reader (count - c) c rest ≡ behind new others =
             rw (left, add-one) (lines_next reader _ c _ new next e) in
             record {
-              size = simp (length-append, length-take, length-drop) (omega (arith, new-width, storing-room, r.size));
+              size = simp (length-append, length-take, length-drop) (omega (arith, new-width, storing_room, r.size));
               same = r.same ∙ ap (behind (take at room)) here ∙ sym (behind-append (take at room) new others)
                   ∙ ap (λ (l : List ℕ). behind l others) more;
             }

@@ -1,4 +1,4 @@
--- What the readers ask and answer, of what a definition reads: the same, with the text that is left.
+-- What the readers ask and answer: what a definition reads of a text, and the text that it leaves.
 use Rattle.std.specs.Prelude.{ℕ, ◌+◌, ◌*◌, ◌≤◌, ◌≡◌, List, [], ◌∷◌, length, Option, Result, MatchOption, MatchResult}
 use denote.Bor.{Bor}
 use Rattle.printer_format.specs.Number.{Got, got, bad}

@@ -17,12 +17,14 @@ pub struct WrongCell(pub usize);
 
 // How many digits stand at the front of a text.
 fn count_digits(s: &[u8]) -> usize
-    ensures { result ≡ prefix_len is_digit s.now }
+    ensures digits { result ≡ prefix_len is_digit s.now }
+    ensures within { result ≤ length s.now }
 {
     s.iter().take_while(|b| b.is_ascii_digit()).count()
 }
 
 // The digits that a text begins with, and what follows them.
+#[tactic(auto, using(crate::proofs::Digits::digits_taken, crate::proofs::Digits::digits_length, crate::proofs::Digits::digits_pass))]
 fn split_digits(s: &[u8]) -> (&[u8], &[u8])
     ensures word { result.0.now ≡ digits_of s.now }
     ensures rest { result.1.now ≡ drop (length (digits_of s.now)) s.now }
@@ -40,6 +42,7 @@ fn no_zero_in_front(w: &[u8]) -> bool
 }
 
 // What digits stand for.
+#[tactic(auto, using(crate::proofs::Digits::valuing_turn, crate::proofs::Digits::valuing_end))]
 fn from_decimal(w: &[u8]) -> u32
     requires few { length w.now ≤ 5 }
     requires digits { AllPass is_digit w.now }
@@ -53,6 +56,7 @@ fn from_decimal(w: &[u8]) -> u32
 }
 
 // "Numbers have 1 to 5 digits, a value up to 65,535, and no needless leading zero; 0 itself is written 0."
+#[tactic(auto, unfolding(printer_format::specs::Number::number, printer_format::specs::Number::is_number))]
 fn read_number(s: &[u8]) -> Option<(u16, &[u8])>
     ensures { NumberRead (number s.now) result }
 {
@@ -64,7 +68,7 @@ fn read_number(s: &[u8]) -> Option<(u16, &[u8])>
     Some((value, rest))
 }
 
-// What follows a number after which so many others are left.
+// What has to follow a number after which so many others are left.
 fn mark_of(left: usize) -> &'static [u8]
     ensures { result.now ≡ mark left ∷ [] }
 {
@@ -72,6 +76,7 @@ fn mark_of(left: usize) -> &'static [u8]
 }
 
 // As many numbers as the room has places, each with its mark.
+#[tactic(auto, using(crate::proofs::Filling::filling_end, crate::proofs::Filling::filling_bad, crate::proofs::Filling::filling_unmarked, crate::proofs::Filling::filling_turn))]
 fn read_numbers<'a>(s: &'a [u8], room: &mut [u16]) -> Option<&'a [u8]>
     ensures { LineRead (numbers (length room.old) s.now) room.new result }
 {
@@ -86,6 +91,7 @@ fn read_numbers<'a>(s: &'a [u8], room: &mut [u16]) -> Option<&'a [u8]>
 }
 
 // A line with this key and as many numbers as the room has places.
+#[tactic(auto, unfolding(printer_format::specs::Line::read_line), using(crate::proofs::Filling::strips))]
 fn take_line<'a>(s: &'a [u8], key: &[u8], room: &mut [u16]) -> Option<&'a [u8]>
     ensures { LineRead (read_line key.now (length room.old) s.now) room.new result }
 {
