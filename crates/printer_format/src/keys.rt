@@ -1,6 +1,7 @@
-// The keys of the lines, each a fixed byte string that is compared on reading and written by the printer.
-ghost use Rattle.std.specs.Prelude.{◌≡◌, ◌+◌, ◌<◌};
-ghost use Rattle.printer_format.specs.Line.{cell_key};
+// The keys of the lines, each a fixed byte string that is compared on reading and written by the printer; digits, and what follows
+// a number.
+ghost use Rattle.std.specs.Prelude.{◌≡◌, ◌+◌, ◌<◌, [], ◌∷◌};
+ghost use Rattle.printer_format.specs.Line.{cell_key, mark};
 ghost use Rattle.printer_format.specs.Number.{digit};
 ghost use Rattle.printer_format.specs.keys.Cell.{CellAsked};
 
@@ -46,4 +47,11 @@ pub fn numeral(v: usize) -> u8
     ensures { result ≡ digit v }
 {
     b'0' + (v as u8)
+}
+
+// What follows a number after which so many others are left.
+pub fn mark_of(left: usize) -> &'static [u8]
+    ensures { result.now ≡ mark left ∷ [] }
+{
+    if left == 0 { b"\n" } else { b" " }
 }

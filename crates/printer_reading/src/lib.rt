@@ -68,13 +68,6 @@ fn read_number(s: &[u8]) -> Option<(u16, &[u8])>
     Some((value, rest))
 }
 
-// What has to follow a number after which so many others are left.
-fn mark_of(left: usize) -> &'static [u8]
-    ensures { result.now ≡ mark left ∷ [] }
-{
-    if left == 0 { b"\n" } else { b" " }
-}
-
 // As many numbers as the room has places, each with its mark.
 #[tactic(auto, using(crate::proofs::Filling::filling_end, crate::proofs::Filling::filling_bad, crate::proofs::Filling::filling_unmarked, crate::proofs::Filling::filling_turn))]
 fn read_numbers<'a>(s: &'a [u8], room: &mut [u16]) -> Option<&'a [u8]>
@@ -85,7 +78,7 @@ fn read_numbers<'a>(s: &'a [u8], room: &mut [u16]) -> Option<&'a [u8]>
     for (k, place) in room.iter_mut().enumerate() {
         let (value, after) = read_number(rest)?;
         *place = value;
-        rest = after.strip_prefix(mark_of(count - k - 1))?;
+        rest = after.strip_prefix(keys::mark_of(count - k - 1))?;
     }
     Some(rest)
 }

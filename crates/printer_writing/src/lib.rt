@@ -50,20 +50,13 @@ fn put_number(page: &mut Page, v: usize)
     page.push(keys::numeral(v % 10));
 }
 
-// What follows a number where further numbers are left.
-fn space_or_feed(left: usize) -> u8
-    ensures { result ≡ mark left }
-{
-    if left == 0 { b'\n' } else { b' ' }
-}
-
 // A number and its mark.
 fn put_marked(page: &mut Page, v: usize, left: usize)
     requires { Fits page.old (decimal v ++ mark left ∷ []) }
     ensures { Extends page.old (decimal v ++ mark left ∷ []) page.new }
 {
     put_number(page, v);
-    page.push(space_or_feed(left));
+    put_bytes(page, keys::mark_of(left));
 }
 
 // Numbers, each with its mark.
