@@ -19,4 +19,16 @@ impl Shape {
     {
         self.m * self.w
     }
+
+    // That of U beside a matrix of this shape: n by n, and each cell has n·w places.
+    pub fn of_u(self) -> Shape
+        requires { self.n * self.w < 18446744073709551616 }
+        ensures { result ≡ record { n = self.n; m = self.n; w = self.n * self.w } }
+    {
+        Shape {
+            n: self.n,
+            m: self.n,
+            w: self.n * self.w,
+        }
+    }
 }

@@ -26,16 +26,16 @@ impl Cells {
         }
     }
 
-    // Those of column x of an n by n matrix stand one in each row.
-    pub(crate) fn of_column(n: usize, w: usize, x: usize) -> Cells
-        requires { (x < n) × (n * w < 18446744073709551616) }
-        ensures { result ≡ column n w x }
+    // Those of column x of V, which is n by n, stand one in each row.
+    pub(crate) fn of_column(shape: Shape, x: usize) -> Cells
+        requires { (x < shape.n) × (shape.n * shape.w < 18446744073709551616) }
+        ensures { result ≡ column shape.n shape.w x }
     {
         Cells {
-            first: x * w,
-            stride: n * w,
-            count: n,
-            w,
+            first: x * shape.w,
+            stride: shape.n * shape.w,
+            count: shape.n,
+            w: shape.w,
         }
     }
 

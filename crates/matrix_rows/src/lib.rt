@@ -71,11 +71,10 @@ pub fn add_row(
     add_cells(buf, to, from, top, c, e, md);
 }
 
-// Column x takes c·x^e times column y.
+// Column x takes c·x^e times column y, of V beside a matrix of this shape.
 pub fn add_column(
     v: &mut [u16],
-    n: usize,
-    w: usize,
+    shape: Shape,
     x: usize,
     y: usize,
     top: usize,
@@ -83,11 +82,11 @@ pub fn add_column(
     e: usize,
     md: Modulus,
 )
-    requires { ColumnsInBuffer md.p c.0 e n w top x y v.old }
-    ensures { ColumnAdded md.p n w c.0 e x y v.old v.new }
+    requires { ColumnsInBuffer md.p c.0 e shape.n shape.w top x y v.old }
+    ensures { ColumnAdded md.p shape.n shape.w c.0 e x y v.old v.new }
 {
-    let to = Cells::of_column(n, w, x);
-    let from = Cells::of_column(n, w, y);
+    let to = Cells::of_column(shape, x);
+    let from = Cells::of_column(shape, y);
     add_cells(v, to, from, top, c, e, md);
 }
 
