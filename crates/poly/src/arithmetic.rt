@@ -48,6 +48,7 @@ fn sum_at(a: &[u16], b: &[u16], k: usize) -> u64
     let start = n.saturating_sub(b.len());
     let end = n - n.saturating_sub(a.len());
     let mut sum: u64 = 0;
+    // By the index, which both share: over a zip with b reversed, `sum` asks for a bound of the sum after every term.
     for i in start..end {
         sum += whole_product(a[i], b[k - i]);
     }

@@ -21,6 +21,7 @@ fn skip(a: &[u16]) -> usize
     ensures { (result ≤ length a.now) × ((i : ℕ) → result ≤ i → get_or a.now i 0 ≡ 0) }
 {
     let mut n = a.len();
+    // A while, since n, which falls by eights, is the answer.
     while 8 <= n && all_zero(&a[n - 8..n]) {
         n -= 8;
     }
