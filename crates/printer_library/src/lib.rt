@@ -44,6 +44,7 @@ fn answer_reduced(head: Head, a: &[u16], r: &[u16], found: Reduction) -> Page
     let _ = determinant::determinant(p, n, m, d, a, det);
     let answer = Answer {
         rank: found.rank,
+        // By `as`, since a usize is From no u64: both have 64 bits.
         steps: found.count as usize,
         n,
         m,
