@@ -3,6 +3,7 @@ ghost use Rattle.matrix_promises.specs.Reduced.{IsReduction};
 ghost use Rattle.matrix.specs.Asked.{WorkAsked};
 ghost use Rattle.matrix.specs.Reduction.{Answered};
 
+use matrix_buffers::Shape;
 use matrix_reduction::{Reached, nonzero_rows};
 use matrix_refusals::{Refusal, checks};
 use matrix_rows::write_identity;
@@ -30,12 +31,12 @@ pub fn reduce(
     ensures { Answered (record { p = p; n = n; m = m; d = d; a = a.now; r = r.old; u = u.old; v = v.old }) r.new u.new v.new result }
 {
     checks::check_reduction(p, n, m, d, a, r.len(), u.len(), v.len())?;
-    let w = d + 1;
-    let x = work(a, r, u, v, n, m, w, Modulus::of(p));
+    let shape = Shape { n, m, w: d + 1 };
+    let x = work(a, r, u, v, shape, Modulus::of(p));
     Ok(Reduction {
         rank: x.rank,
         count: x.count,
-        rows: nonzero_rows::list(r, n, m, w),
+        rows: nonzero_rows::list(r, shape),
     })
 }
 
@@ -45,16 +46,15 @@ pub(crate) fn work(
     r: &mut [u16],
     u: &mut [u16],
     v: &mut [u16],
-    n: usize,
-    m: usize,
-    w: usize,
+    shape: Shape,
     md: Modulus,
 ) -> Reached
-    requires { WorkAsked md.p md.reciprocal n m w a.now r.old u.old v.old }
-    ensures { IsReduction md.p n m w a.now r.new u.new v.new result.rank result.count }
+    requires { WorkAsked md.p shape.n shape.m shape.w a.now r.old u.old v.old }
+    ensures { IsReduction md.p shape.n shape.m shape.w a.now r.new u.new v.new result.rank result.count }
 {
     arithmetic::copy(a, r);
+    let Shape { n, w, .. } = shape;
     write_identity(u, n, n * w);
     write_identity(v, n, w);
-    matrix_reduction::run(r, u, v, n, m, w, md)
+    matrix_reduction::run(r, u, v, shape, md)
 }

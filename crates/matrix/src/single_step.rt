@@ -1,6 +1,7 @@
 // The single step: input and result only.
 ghost use Rattle.matrix.specs.SingleStep.{StepAnswered};
 
+use matrix_buffers::Shape;
 use matrix_refusals::{Refusal, checks};
 use poly::{Modulus, arithmetic};
 
@@ -10,5 +11,6 @@ pub fn step(p: u32, n: usize, m: usize, d: usize, a: &[u16], r: &mut [u16]) -> R
 {
     checks::check_step(p, n, m, d, a, r.len())?;
     arithmetic::copy(a, r);
-    Ok(matrix_reduction::once(r, n, m, d + 1, Modulus::of(p)))
+    let shape = Shape { n, m, w: d + 1 };
+    Ok(matrix_reduction::once(r, shape, Modulus::of(p)))
 }

@@ -4,6 +4,7 @@
 ghost use Rattle.std.specs.Prelude.{◌≡◌};
 ghost use Rattle.matrix_bench.specs.Alone.{reply_of, AloneReplied};
 
+use matrix_buffers::Shape;
 use matrix_reduction::Reached;
 use matrix_refusals::{Refusal, checks};
 use poly::{Modulus, arithmetic};
@@ -44,7 +45,8 @@ fn alone(p: u32, n: usize, m: usize, d: usize, a: &[u16], r: &mut [u16]) -> Resu
 {
     checks::check_step(p, n, m, d, a, r.len())?;
     arithmetic::copy(a, r);
-    Ok(matrix_reduction::run_alone(r, n, m, d + 1, Modulus::of(p)))
+    let shape = Shape { n, m, w: d + 1 };
+    Ok(matrix_reduction::run_alone(r, shape, Modulus::of(p)))
 }
 
 // The same for C: the reply has numbers only, and parameters stand one by one.
