@@ -13,7 +13,7 @@ use Rattle.matrix_popov.specs.second_step.Removing.{RemovingAsked, Cleared}
 use Rattle.matrix_popov.specs.monic.Monic.{MonicAsked, MadeMonic}
 use Rattle.matrix_popov.specs.Finished.{FinishAsked, Finished}
 
-module _ (p reciprocal n m w : ℕ) (r u v r₁ u₁ v₁ r₂ u₂ v₂ : List ℕ) where
+module _ (p n m w : ℕ) (r u v r₁ u₁ v₁ r₂ u₂ v₂ : List ℕ) where
   pub put-in-order-unique : OrderAsked n m w r u v → PutInOrder n m w r u v r₁ u₁ v₁ → PutInOrder n m w r u v r₂ u₂ v₂
       → (r₁ ≡ r₂) × (u₁ ≡ u₂) × (v₁ ≡ v₂)
   put-in-order-unique asked x y =
@@ -21,7 +21,7 @@ module _ (p reciprocal n m w : ℕ) (r u v r₁ u₁ v₁ r₂ u₂ v₂ : List 
       holding-unique (x.by q asked.prime asked.t asked.holding) (y.by q asked.prime asked.t asked.holding)
 
   -- k + 1 for the function that clears row k, and n for the one that clears all
-  pub clear-unique : (pivots : List Pivot) → RemovingAsked p reciprocal n m w r u v pivots
+  pub clear-unique : (pivots : List Pivot) → RemovingAsked p n m w r u v pivots
       → (k count count' : ℕ) → Cleared p n m w k count pivots r u v r₁ u₁ v₁ → Cleared p n m w k count' pivots r u v r₂ u₂ v₂
       → (count ≡ count') × (r₁ ≡ r₂) × (u₁ ≡ u₂) × (v₁ ≡ v₂)
   clear-unique pivots asked k count count' x y =
@@ -31,12 +31,12 @@ module _ (p reciprocal n m w : ℕ) (r u v r₁ u₁ v₁ r₂ u₂ v₂ : List 
       let (same-r, same-u, same-v) = holding-unique (subst (Holding p n m w r₁ u₁ v₁) ends f.standing.holding) g.standing.holding in
       (counts, same-r, same-u, same-v)
 
-  pub make-monic-unique : (pivots : List Pivot) → MonicAsked p reciprocal n m w r u v pivots
+  pub make-monic-unique : (pivots : List Pivot) → MonicAsked p n m w r u v pivots
       → MadeMonic p n m w r u v r₁ u₁ v₁ → MadeMonic p n m w r u v r₂ u₂ v₂ → (r₁ ≡ r₂) × (u₁ ≡ u₂) × (v₁ ≡ v₂)
   make-monic-unique pivots asked x y =
       holding-unique (x.by asked.prime asked.t asked.holding) (y.by asked.prime asked.t asked.holding)
 
-  pub finish-unique : FinishAsked p reciprocal n m w r u v
+  pub finish-unique : FinishAsked p n m w r u v
       → (second second' : ℕ) → Finished p n m w second r u v r₁ u₁ v₁ → Finished p n m w second' r u v r₂ u₂ v₂
       → (second ≡ second') × (r₁ ≡ r₂) × (u₁ ≡ u₂) × (v₁ ≡ v₂)
   finish-unique asked second second' x y =

@@ -6,9 +6,9 @@ use Rattle.matrix_promises.specs.Reduced.{IsReduction}
 use Rattle.matrix_promises.specs.Popov.{IsPopov}
 
 -- the buffers hold the reduction of some matrix that has passed the checks
-pub record FinishAsked (p reciprocal n m w : ℕ) (r u v : List ℕ) : Type 0 where
+pub record FinishAsked (p n m w : ℕ) (r u v : List ℕ) : Type 0 where
   pub a : List ℕ
-  pub checked : Checked p reciprocal n m w a
+  pub checked : Checked p n m w a
   pub rank : ℕ
   pub count : ℕ
   pub reduced : IsReduction p n m w a r u v rank count

@@ -15,7 +15,7 @@ use Rattle.matrix_rows.specs.Cells.{row, column, place}
 use Rattle.matrix_rows.specs.Asked.{InBuffer, Pairs, CellPairs, OneRow, TwoRows, OneColumn, TwoColumns, RowsInBuffer, ColumnsInBuffer}
 
 -- a row and two rows
-pub row-in : {m w i : ℕ} {b : List ℕ} → OneRow m w i b → InBuffer w m (row m w i) b
+row-in : {m w i : ℕ} {b : List ℕ} → OneRow m w i b → InBuffer w m (row m w i) b
 row-in {m} {w} asked = record { fits = λ j lj. omega (arith, asked.fits, line-end j m w lj); distance = omega arith }
 
 pub two-rows : {n m w i j : ℕ} {b : List ℕ} → length b ≡ n * (m * w) → i < n → j < n → i ≢ j → TwoRows m w i j b

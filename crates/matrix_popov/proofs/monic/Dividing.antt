@@ -4,7 +4,7 @@ use mathlib.Core.List.{List}
 use Prim.Native.Nat.{ℕ, zero, suc, ◌+◌, ◌-◌, ◌*◌, ◌%◌, ◌≤◌, ◌<◌}
 use native.Mathlib.Decide.{ℕ_discrete}
 use native.Mathlib.Omega.{arith}
-use lib.ListN.{length, get_or}
+use lib.ListN.{get_or}
 use Rattle.theory_algebra.specs.Ring.{CommRing}
 use Rattle.theory_algebra.specs.Field.{Field}
 use Rattle.theory_algebra.specs.Matrix.{Mat, transpose, scalerow, dilate}
@@ -101,11 +101,8 @@ unfolding index
 number_is p P m w zero a x h = field-one p P
 number_is p P m w (suc v) a x h = h (omega arith)
 
-module _ {p reciprocal n m w : ℕ} {r₀ u₀ v₀ : List ℕ} {pivots : List Pivot} (asked : MonicAsked p reciprocal n m w r₀ u₀ v₀ pivots) where
-  open asked use {ready, prime, bounds, holding, pivots_are}
-
-  pub dividing-start : Dividing p n m w r₀ u₀ v₀ r₀ u₀ v₀ 0
-  dividing-start = record { most = omega arith; held = λ P t h. h }
+module _ {p n m w : ℕ} {r₀ u₀ v₀ : List ℕ} {pivots : List Pivot} (asked : MonicAsked p n m w r₀ u₀ v₀ pivots) where
+  open asked use {prime, bounds, holding, pivots_are}
 
   pub dividing-all : {r u v : List ℕ} → Dividing p n m w r₀ u₀ v₀ r u v n → MadeMonic p n m w r₀ u₀ v₀ r u v
   dividing-all inv = record { by = λ P t h. held_all P t (inv.held P t h) }
@@ -113,9 +110,6 @@ module _ {p reciprocal n m w : ℕ} {r₀ u₀ v₀ : List ℕ} {pivots : List P
   module _ {r u v : List ℕ} {i : ℕ} (inv : Dividing p n m w r₀ u₀ v₀ r u v i) where
     here : Holding p n m w r u v (partly (zp_field p prime) m w asked.t i)
     here = inv.held prime asked.t holding
-
-    pub lengths : (length r ≡ length r₀) × (length u ≡ length u₀) × (length v ≡ length v₀)
-    lengths = (here.R.size ∙ sym holding.R.size, here.U.size ∙ sym holding.U.size, here.V'.size ∙ sym holding.V'.size)
 
     module _ (li : i < n) where
       abbrev pivot : Pivot
@@ -133,9 +127,8 @@ module _ {p reciprocal n m w : ℕ} {r₀ u₀ v₀ : List ℕ} {pivots : List P
       pivot-there : 0 < values_of m w r₀ i → PivotAsked m w i pivot r₀
       pivot-there l = pivot-asked n m w bounds.columns r₀ holding.R.size pivots_are i li l
 
-      pub row-asked : RowToDivide p reciprocal n m w i pivot r u v
+      pub row-asked : RowToDivide p n m w i pivot r u v
       row-asked = record {
-        ready = ready;
         prime = prime;
         t = _;
         holding = here;
@@ -144,7 +137,7 @@ module _ {p reciprocal n m w : ℕ} {r₀ u₀ v₀ : List ℕ} {pivots : List P
             let x = pivot-there (omega (arith, (pivots_are.row i li).index_is, value-is m (values_of m w r₀ i))) in
             record {
               leading = record {
-                row = omega (arith, lengths, x.leading.row);
+                row = omega (arith, here.R.size, holding.R.size, x.leading.row);
                 column = x.leading.column;
                 column_most = x.leading.column_most;
                 height = x.leading.height;

@@ -1,22 +1,20 @@
 -- One row: what its division asks of the operations on rows, and a zero row, which is as good as divided by 1.
 use mathlib.Core.Path.{◌≡◌, refl, sym, ◌∙◌, ap}
 use mathlib.Core.List.{List}
-use Prim.Native.Nat.{ℕ, zero, suc, ◌*◌, ◌%◌, ◌≤◌, ◌<◌}
+use Prim.Native.Nat.{ℕ, ◌*◌, ◌%◌, ◌<◌}
 use native.Mathlib.Nat as N
 use native.Mathlib.Omega.{arith}
 use lib.ListN.{length, get_or}
 use Rattle.theory_algebra.proofs.Cases.{case-le}
 use Rattle.theory_lists.proofs.Change.{get_or-past}
-use Rattle.theory_lists.proofs.Grid.{line-end, one_line}
+use Rattle.theory_lists.proofs.Grid.{line-end}
 use Rattle.theory_lists.specs.Coefficients.{Coefficients}
 use Rattle.matrix_promises.specs.Layout.{by_rows}
 use Rattle.matrix_promises.proofs.Held.{held-coefficients}
 use Rattle.matrix_buffers.specs.Scaled.{CellsScaled}
-use Rattle.matrix_rows.specs.scale.Asked.{PartToScale}
+use Rattle.matrix_rows.specs.Asked.{OneRow}
 use Rattle.matrix_pivots.specs.declared.pivot.Pivot.{Pivot}
-use Rattle.matrix_steps.specs.multiple.Factor.{leading_at}
-use Rattle.matrix_steps.proofs.multiple.Below.{coefficient-below}
-use Rattle.matrix_popov.specs.monic.Monic.{RowToDivide, where_some, RowDivided}
+use Rattle.matrix_popov.specs.monic.Monic.{RowToDivide, RowDivided}
 
 -- residues times 1
 once : {p w count : ℕ} {at : ℕ → ℕ → ℕ} {b : List ℕ} → 1 < p → Coefficients p b → CellsScaled p 1 w count at b b
@@ -29,8 +27,12 @@ once {p} {at = at} {b = b} two residues = record {
     below : (x : ℕ) → get_or b x 0 < p
     below x = case-le (length b) x (λ past. omega (arith, get_or-past b x past)) (λ inside. residues.below x inside)
 
-module _ {p reciprocal n m w i : ℕ} {pivot : Pivot} {r u v : List ℕ} (asked : RowToDivide p reciprocal n m w i pivot r u v) where
-  open asked use {ready, prime, holding, fits, led}
+-- a row of a matrix
+pub one-row : {n m w i : ℕ} {b : List ℕ} → length b ≡ n * (m * w) → i < n → OneRow m w i b
+one-row {n} {m} {w} {i} size li = record { fits = omega (arith, size, line-end i n (m * w) li) }
+
+module _ {p n m w i : ℕ} {pivot : Pivot} {r u v : List ℕ} (asked : RowToDivide p n m w i pivot r u v) where
+  open asked use {prime, holding, fits, led}
 
   pub zero_row : pivot.index.0 ≡ 0 → RowDivided p n m w i pivot r u v r u v
   zero_row none = record {
@@ -42,25 +44,3 @@ module _ {p reciprocal n m w i : ℕ} {pivot : Pivot} {r u v : List ℕ} (asked 
     u_divided = once prime.two (held-coefficients (by_rows n n (n * w)) p holding.U);
     v_multiplied = once prime.two (held-coefficients (by_rows n n w) p holding.V');
   }
-
-  -- what a row that is not zero is divided by
-  pub divisor-is : {c : ℕ} → 0 < pivot.index.0 → c ≡ leading_at m w r i pivot → c ≡ where_some pivot.index.0 (leading_at m w r i pivot)
-  divisor-is some is = is ∙ chosen pivot.index.0 _ some
-    where
-      chosen : (x lead : ℕ) → 0 < x → lead ≡ where_some x lead
-      chosen zero lead l = absurd (omega arith)
-      chosen (suc x) lead l = refl
-
-  -- the leading coefficient is a residue
-  pub leading-below : 0 < pivot.index.0 → leading_at m w r i pivot < p
-  leading-below l = coefficient-below (held-coefficients (by_rows n m w) p holding.R) (led l).leading
-
-  pub r-row : PartToScale p reciprocal (m * w) (i * (m * w)) r
-  r-row = record { ready = ready; fits = omega (arith, holding.R.size, line-end i n (m * w) fits) }
-
-  pub u-row : PartToScale p reciprocal (n * (n * w)) (i * (n * (n * w))) u
-  u-row = record { ready = ready; fits = omega (arith, holding.U.size, line-end i n (n * (n * w)) fits) }
-
-  -- a cell of U
-  pub cell-most : n * w ≤ length u
-  cell-most = let rows : 0 < n = omega (arith, fits) in omega (arith, holding.U.size, one_line n (n * w) rows, one_line n (n * (n * w)) rows)

@@ -5,7 +5,8 @@ use Prim.Native.Nat.{ℕ, suc, ◌+◌, ◌-◌, ◌≤◌, ◌<◌}
 use native.Mathlib.Nat as N
 use native.Mathlib.Omega.{arith}
 use borrow.Author.Count.{below_more}
-use lib.ListN.{length}
+use lib.ListN.{length, get_or}
+use Rattle.std.proofs.Common.{None}
 use Rattle.theory_algebra.specs.Prime.{Prime}
 use Rattle.theory_algebra.specs.Residue.{Zp}
 use Rattle.theory_algebra.proofs.Cases.{case-le}
@@ -17,41 +18,32 @@ use Rattle.theory_reduction.proofs.Process.{iterates-halt}
 use Rattle.theory_popov.specs.SecondKind.{NoRemoval, excesses, remove}
 use Rattle.theory_popov.specs.SecondRun.{second_kind, SecondRuns}
 use Rattle.theory_popov.proofs.SecondEnding.{second-reach, second-count}
-use Rattle.matrix_pivots.specs.Pivot.{values_of, index_at, Pivots}
+use Rattle.matrix_pivots.specs.Pivot.{values_of, zero_row, index_at, Pivots}
 use Rattle.matrix_pivots.specs.declared.pivot.Pivot.{Pivot}
 use Rattle.matrix_steps.proofs.RowsOf.{row_fits, leading-asked}
-use Rattle.matrix_popov.specs.second_step.Excess.{excess_at, HighestAsked, IsHighest}
+use Rattle.matrix_popov.specs.second_step.Excess.{excess_at, HighestAsked, Greatest, IsHighest}
 use Rattle.matrix_popov.specs.second_step.Removing.{RemoveAsked, SecondMove, Standing, RemovingAsked, ClearedTo, ClearAsked, Cleared}
 use Rattle.matrix_popov.proofs.second_step.Excesses.{left_of, excess-held}
 use Rattle.matrix_popov.proofs.second_step.Step.{other_row, indexed-first, first_some, rest-none, Turn, removal, removal-on, remove-asked}
 use Rattle.matrix_popov.proofs.second_step.Step.{standing_on, pivots-on, before_on, falls}
 use Rattle.matrix_popov.proofs.second_step.Runs.{runs_then}
 
-module _ {p reciprocal n m w : ℕ} {r u v : List ℕ} {pivots : List Pivot} (asked : RemovingAsked p reciprocal n m w r u v pivots) where
+module _ {p n m w : ℕ} {r u v : List ℕ} {pivots : List Pivot} (asked : RemovingAsked p n m w r u v pivots) where
   open asked use {prime, bounds, rank, A}
 
   -- a state that the buffers hold later
   module _ {r' u' v' : List ℕ} {t' : Carried (Zp p)} (standing : Standing p prime n m w rank A r' u' v' t') where
-    removing-on : Pivots n m (values_of m w r') pivots → RemovingAsked p reciprocal n m w r' u' v' pivots
+    removing-on : Pivots n m (values_of m w r') pivots → RemovingAsked p n m w r' u' v' pivots
     removing-on pivots_are = record {
-      ready = asked.ready;
       prime = prime;
       bounds = bounds;
+      pivots_size = asked.pivots_size;
       pivots_are = pivots_are;
       rank = rank;
       A = A;
       t = t';
       standing = standing;
     }
-
-    -- the buffers keep their lengths
-    same-lengths : (length r' ≡ length r) × (length u' ≡ length u) × (length v' ≡ length v)
-    same-lengths =
-        let h = asked.standing.holding in (
-          standing.holding.R.size ∙ sym h.R.size,
-          standing.holding.U.size ∙ sym h.U.size,
-          standing.holding.V'.size ∙ sym h.V'.size,
-        )
 
     -- the counter of the steps that led to it fits
     count_most : {count : ℕ}
@@ -81,9 +73,6 @@ module _ {p reciprocal n m w : ℕ} {r u v : List ℕ} {pivots : List Pivot} (as
     abbrev here : Standing p prime n m w rank A r' u' v' (x.by prime rank A asked.t asked.standing).t'
     here = (x.by prime rank A asked.t asked.standing).standing
 
-    pub cleared-lengths : (length r' ≡ length r) × (length u' ≡ length u) × (length v' ≡ length v)
-    cleared-lengths = same-lengths here
-
     pub cleared-count : k ≤ n → count ≤ length v
     cleared-count lk = count_most here (λ c e q. runs_then (zp_field p prime) m w lk (x.by prime rank A asked.t asked.standing).runs q)
 
@@ -99,7 +88,7 @@ module _ {p reciprocal n m w : ℕ} {r u v : List ℕ} {pivots : List Pivot} (as
     }
 
     -- the next row, which is not zero, can be
-    pub clear-asked : k < n → 0 < index_at pivots k → ClearAsked p reciprocal n m w k r' u' v' pivots
+    pub clear-asked : k < n → 0 < index_at pivots k → ClearAsked p n m w k r' u' v' pivots
     clear-asked lk some = record {
       removing = removing-on here x.pivots_are;
       before = record {
@@ -139,7 +128,7 @@ pub record Clearing (p n m w k count : ℕ) (pivots : List Pivot) (r u v r' u' v
       → Reached p P n m w rank A k count t r' u' v'
 
 -- row k is the next
-module _ {p reciprocal n m w k : ℕ} {r u v : List ℕ} {pivots : List Pivot} (asked : ClearAsked p reciprocal n m w k r u v pivots) where
+module _ {p n m w k : ℕ} {r u v : List ℕ} {pivots : List Pivot} (asked : ClearAsked p n m w k r u v pivots) where
   open asked use {removing, k_fits, k_some}
   open removing use {prime, bounds, rank, A}
 
@@ -154,9 +143,6 @@ module _ {p reciprocal n m w k : ℕ} {r u v : List ℕ} {pivots : List Pivot} (
     now : Reached p prime n m w rank A k count removing.t r' u' v'
     now = x.reached prime rank A removing.t removing.standing
 
-    pub clearing-lengths : (length r' ≡ length r) × (length u' ≡ length u) × (length v' ≡ length v)
-    clearing-lengths = same-lengths removing now.standing
-
     pub clearing-count : count ≤ length v
     clearing-count = count_most removing now.standing (λ c e q. now.onward n c e k_fits q)
 
@@ -165,7 +151,7 @@ module _ {p reciprocal n m w k : ℕ} {r u v : List ℕ} {pivots : List Pivot} (
         let size = now.standing.holding.R.size in
         let first : k < rank = indexed-first bounds.columns x.pivots_are now.standing k k_fits k_some in
         record {
-          before = omega (arith, k_fits, bounds.rows_most);
+          before = omega (arith, k_fits, removing.pivots_size);
           rows = λ i l.
               let pivot = leading-asked n m w bounds.columns r' size x.pivots_are i (omega (arith, k_fits))
               (first_some bounds.columns x.pivots_are now.standing i (omega arith)) in
@@ -173,14 +159,14 @@ module _ {p reciprocal n m w k : ℕ} {r u v : List ℕ} {pivots : List Pivot} (
         }
 
     -- it has no excess
-    pub clearing-end : {i : ℕ} → IsHighest k (excess_at m w r' pivots k) i 0 → Cleared p n m w (k + 1) count pivots r u v r' u' v'
+    pub clearing-end : IsHighest k (excess_at m w r' pivots k) None → Cleared p n m w (k + 1) count pivots r u v r' u' v'
     clearing-end found = record {
       pivots_are = x.pivots_are;
       by = λ P rank A t s.
           let y = x.reached P rank A t s in
           let none : (a : ℕ) → a < k + 1 → (j : ℕ) → j < a → excess_at m w r' pivots a j ≡ 0 =
           below_more (λ a. (j : ℕ) → j < a → excess_at m w r' pivots a j ≡ 0) k
-          (λ a la j l. x.before.none a j l la) (λ j l. omega (arith, found.greatest j l)) in
+          (λ a la j l. x.before.none a j l la) found in
           let left : NoRemoval (k + 1) (excesses (zp_field p P) m w y.t'.R) = λ a j l la.
           sym (excess-held p P n m w bounds.columns y.standing.holding.R x.pivots_are a j (omega (arith, k_fits)) (omega (arith, k_fits)))
           ∙ none a la j l in
@@ -188,14 +174,14 @@ module _ {p reciprocal n m w k : ℕ} {r u v : List ℕ} {pivots : List Pivot} (
     }
 
     -- or it has one
-    module _ {i most : ℕ} (found : IsHighest k (excess_at m w r' pivots k) i most) (some : 0 < most) where
-      turn : Turn n m w k i most r' pivots
-      turn = record { bounds = bounds; k_fits = k_fits; before = x.before; found = found; some = some }
+    module _ {i e : ℕ} (found : Greatest k (excess_at m w r' pivots k) i e) where
+      turn : Turn n m w k i e r' pivots
+      turn = record { bounds = bounds; k_fits = k_fits; before = x.before; found = found }
 
-      pub step-asked : RemoveAsked p reciprocal n m w k i (most - 1) r' u' v' pivots
-      step-asked = remove-asked bounds.columns x.pivots_are now.standing turn removing.ready
+      pub step-asked : RemoveAsked p n m w k i (get_or pivots k zero_row) (get_or pivots i zero_row) e r' u' v'
+      step-asked = remove-asked bounds.columns x.pivots_are now.standing turn
 
-      module _ {r₂ u₂ v₂ : List ℕ} (d : SecondMove p n m w k i (most - 1) pivots r' u' v' r₂ u₂ v₂) where
+      module _ {r₂ u₂ v₂ : List ℕ} (d : SecondMove p n m w k i (get_or pivots i zero_row) e r' u' v' r₂ u₂ v₂) where
         -- one step more
         pub clearing-more : Clearing p n m w k (count + 1) pivots r u v r₂ u₂ v₂
         clearing-more = record {

@@ -3,7 +3,7 @@ use mathlib.Core.Path.{◌≡◌, sym, ap, ◌∙◌}
 use mathlib.Core.List.{List}
 use Prim.Native.Nat.{ℕ, suc, ◌+◌, ◌-◌, ◌*◌, ◌≤◌, ◌<◌}
 use native.Mathlib.Omega.{arith}
-use lib.ListN.{length}
+use lib.ListN.{length, get_or}
 use Rattle.theory_algebra.specs.Field.{Field}
 use Rattle.theory_algebra.specs.Prime.{Prime}
 use Rattle.theory_algebra.specs.Residue.{Zp}
@@ -24,12 +24,11 @@ use Rattle.theory_popov.proofs.Carrying.{removed-carries}
 use Rattle.theory_popov.specs.Carries.{Carries}
 use Rattle.theory_popov.proofs.Removing.{Removed}
 use Rattle.theory_popov.proofs.SecondStep.{zero-excess, k_some, removed-row, values-kept, tidy-step, excesses-kept, left-falls}
-use Rattle.poly.specs.residues.Modulus.{Ready}
 use Rattle.matrix_promises.specs.Holding.{Holding}
 use Rattle.matrix_promises.specs.Layout.{by_rows}
 use Rattle.matrix_promises.proofs.Held.{held-coefficients}
 use Rattle.matrix_buffers.specs.Bounds.{Bounds}
-use Rattle.matrix_pivots.specs.Pivot.{values_of, index_at, degree_at, Pivots}
+use Rattle.matrix_pivots.specs.Pivot.{values_of, zero_row, index_at, degree_at, Pivots}
 use Rattle.matrix_pivots.specs.declared.pivot.Pivot.{Pivot}
 use Rattle.matrix_steps.specs.multiple.Factor.{Divided}
 use Rattle.matrix_steps.specs.multiple.Asked.{CoefficientAsked}
@@ -37,7 +36,7 @@ use Rattle.matrix_steps.proofs.Value.{value-held, height_most}
 use Rattle.matrix_steps.proofs.Moving.{height-is, coefficient-is, leading-is, subtracted-holding}
 use Rattle.matrix_steps.proofs.Short.{spent_fits, u_short, v_short}
 use Rattle.matrix_steps.proofs.RowsOf.{row_fits, pivot-short, pivot-asked}
-use Rattle.matrix_popov.specs.second_step.Excess.{excess_at, IsHighest}
+use Rattle.matrix_popov.specs.second_step.Excess.{excess_at, Greatest}
 use Rattle.matrix_popov.specs.second_step.Removing.{RemoveAsked, SecondMove, Standing, ClearedTo}
 use Rattle.matrix_popov.proofs.second_step.Runs.{step_then}
 use Rattle.matrix_popov.proofs.second_step.Excesses.{left_of, excess-held, left-held}
@@ -50,13 +49,12 @@ pub other_row : {m w i k x h h' : ℕ} {r : List ℕ} → CoefficientAsked m w i
     → CoefficientAsked m w k x h' r
 other_row pivot row some most = record { row = row; column = pivot.column; column_most = pivot.column_most; height = some; height_most = most }
 
--- the rows before k are cleared, and row k has the greatest excess over row i
-pub record Turn (n m w k i most : ℕ) (r : List ℕ) (pivots : List Pivot) : Type 0 where
+-- the rows before k are cleared, and row k has the greatest excess, which is e, over row i
+pub record Turn (n m w k i e : ℕ) (r : List ℕ) (pivots : List Pivot) : Type 0 where
   pub bounds : Bounds n m w
   pub k_fits : k < n
   pub before : ClearedTo m w k r pivots
-  pub found : IsHighest k (excess_at m w r pivots k) i most
-  pub some : 0 < most
+  pub found : Greatest k (excess_at m w r pivots k) i e
 
 -- a state that the buffers hold, with the pivots of its rows
 module _ {p n m w rank : ℕ} {P : Prime p} {A : ℕ → Row (Zp p)} {r u v : List ℕ} {pivots : List Pivot} {t : Carried (Zp p)} (columns : 0 < m)
@@ -94,18 +92,18 @@ module _ {p n m w rank : ℕ} {P : Prime p} {A : ℕ → Row (Zp p)} {r u v : Li
       past = case-le rank a (λ l. l)
           (λ l. absurd (omega (arith, none, (found.row k lk).index_is, index-some m (values_of m w r k) (first_some k (omega arith)))))
 
-  module _ {k i most : ℕ} (turn : Turn n m w k i most r pivots) where
-    open turn use {bounds, k_fits, before, some}
-    open bounds use {places, rows_most}
+  module _ {k i e : ℕ} (turn : Turn n m w k i e r pivots) where
+    open turn use {bounds, k_fits, before}
+    open bounds use {places}
 
     i-before : i < k
-    i-before = (turn.found.has some).0
+    i-before = turn.found.fits
 
     i_fits : i < n
     i_fits = omega (arith, i-before)
 
-    excess-now : excesses K m w M k i ≡ most
-    excess-now = sym (excess-is k i k_fits i_fits) ∙ (turn.found.has some).1
+    excess-now : excesses K m w M k i ≡ e + 1
+    excess-now = sym (excess-is k i k_fits i_fits) ∙ turn.found.has
 
     pub removal : Removal n (excesses K m w M)
     removal = record {
@@ -122,7 +120,7 @@ module _ {p n m w rank : ℕ} {P : Prime p} {A : ℕ → Row (Zp p)} {r u v : Li
     }
 
     -- it is a step on all first rows among which row k is
-    pub removal-on : {k' c : ℕ} {e : Carried (Zp p)} → k < k' → SecondRuns K k' m w c (remove K m w t removal) e → SecondRuns K k' m w (suc c) t e
+    pub removal-on : {k' c : ℕ} {t' : Carried (Zp p)} → k < k' → SecondRuns K k' m w c (remove K m w t removal) t' → SecondRuns K k' m w (suc c) t t'
     unfolding removal
     removal-on l q = step_then K m w t removal l q
 
@@ -145,26 +143,24 @@ module _ {p n m w rank : ℕ} {P : Prime p} {A : ℕ → Row (Zp p)} {r u v : Li
     low = height-now i i_fits ∙ height-some m _ i-some
 
     -- the multiple of row i is no higher than row k
-    room : most - 1 + degree_at pivots i ≤ degree_at pivots k
+    room : e + degree_at pivots i ≤ degree_at pivots k
     room = omega (arith, high, low, removed.room, excess-now)
 
     high-most : degree_at pivots k ≤ w
     high-most = omega (arith, (found.row k k_fits).degree_is, height_most m w r k)
 
     -- so row i of U, shifted as it is, ends within the cells
-    u-ends : (j : ℕ) → suc (pivot_degree K n m w M i + spent_since K n m w A t) - pivot_degree K n m w A j ≤ n * w - (most - 1)
-    u-ends j = within (most - 1) _ _ (spent_since K n m w A t) (pivot_degree K n m w A j) (n * w)
+    u-ends : (j : ℕ) → suc (pivot_degree K n m w M i + spent_since K n m w A t) - pivot_degree K n m w A j ≤ n * w - e
+    u-ends j = within e _ _ (spent_since K n m w A t) (pivot_degree K n m w A j) (n * w)
         (omega (arith, room, height-now k k_fits, height-now i i_fits)) (omega (arith, low, height-now i i_fits))
         (spent_fits p P n m w A s.holding s.carries.narrow places s.bounded k k_fits)
 
-    pub remove-asked : {reciprocal : ℕ} → Ready p reciprocal → RemoveAsked p reciprocal n m w k i (most - 1) r u v pivots
-    remove-asked ready =
+    pub remove-asked : RemoveAsked p n m w k i (get_or pivots k zero_row) (get_or pivots i zero_row) e r u v
+    remove-asked =
         let size = s.holding.R.size in
         let pivot = pivot-asked n m w columns r size found i i_fits (first_some i (omega (arith, i-before, k-first))) in
         record {
-          rows = rows_most;
           term = record {
-            ready = ready;
             prime = P;
             residues = held-coefficients (by_rows n m w) p s.holding.R;
             i_pivot = pivot;
@@ -179,7 +175,7 @@ module _ {p n m w rank : ℕ} {P : Prime p} {A : ℕ → Row (Zp p)} {r u v : Li
             v_residues = held-coefficients (by_rows n n w) p s.holding.V';
             l_fits = k_fits;
             k_fits = i_fits;
-            differ = λ e. omega (arith, i-before);
+            differ = λ same. omega (arith, i-before);
             u_short = u_short p P n m w A s.holding s.carries.narrow i _ i_fits (λ j _. u-ends j);
             v_short = v_short p P n m w A s.holding s.carries.narrow columns places s.bounded found k k_fits;
             u_room = omega (arith, room, high-most, low, one_line n w (omega arith));
@@ -188,7 +184,7 @@ module _ {p n m w rank : ℕ} {P : Prime p} {A : ℕ → Row (Zp p)} {r u v : Li
         }
 
     -- the step by numbers
-    module _ {r' u' v' : List ℕ} (d : SecondMove p n m w k i (most - 1) pivots r u v r' u' v') where
+    module _ {r' u' v' : List ℕ} (d : SecondMove p n m w k i (get_or pivots i zero_row) e r u v r' u' v') where
       abbrev t' : Carried (Zp p)
       t' = remove K m w t removal
 
@@ -203,7 +199,8 @@ module _ {p n m w rank : ℕ} {P : Prime p} {A : ℕ → Row (Zp p)} {r u v : Li
       divided =
           let term = coefficient-is p P n m w columns s.holding.R found k i (exponent K m w (M k) (M i)) k_fits i_fits i-some
           (omega (arith, removed.room, high, high-most)) in
-          rw (term, leading-is p P n m w columns s.holding.R found i i_fits i-some, excess-now) d.divided
+          let is : exponent K m w (M k) (M i) ≡ e = omega (arith, excess-now) in
+          rw (term, leading-is p P n m w columns s.holding.R found i i_fits i-some, is) d.divided
 
       holding' : Holding p n m w r' u' v' t'
       unfolding removal remove remover

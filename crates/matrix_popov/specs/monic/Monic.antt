@@ -1,11 +1,11 @@
 -- "Last, divide each non-zero row by its pivot's leading coefficient; zero rows stay.": what is asked, and what is left.
-use Rattle.std.specs.Prelude.{◌≡◌, List, ℕ, zero, suc, ◌*◌, ◌<◌}
+use Rattle.std.specs.Prelude.{◌≡◌, List, ℕ, zero, suc, ◌*◌, ◌<◌, length}
 use Rattle.theory_algebra.specs.Prime.{Prime}
 use Rattle.theory_algebra.specs.Residue.{Zp}
 use Rattle.theory_rings.specs.PrimeField.{zp_field}
 use Rattle.theory_reduction.specs.Step.{Carried}
 use Rattle.theory_popov.specs.Scaled.{scaled}
-use Rattle.poly.specs.residues.Modulus.{Ready, Inverse}
+use Rattle.poly.specs.residues.Modulus.{Inverse}
 use Rattle.matrix_promises.specs.Holding.{Holding}
 use Rattle.matrix_buffers.specs.Bounds.{Bounds}
 use Rattle.matrix_buffers.specs.Scaled.{RowScaled, ColumnScaled}
@@ -15,8 +15,7 @@ use Rattle.matrix_steps.specs.multiple.Asked.{PivotAsked}
 use Rattle.matrix_steps.specs.multiple.Factor.{leading_at}
 
 -- row i of matrices that the buffers hold, with its pivot
-pub record RowToDivide (p reciprocal n m w i : ℕ) (pivot : Pivot) (r u v : List ℕ) : Type 0 where
-  pub ready : Ready p reciprocal
+pub record RowToDivide (p n m w i : ℕ) (pivot : Pivot) (r u v : List ℕ) : Type 0 where
   pub prime : Prime p
   pub t : Carried (Zp p)
   pub holding : Holding p n m w r u v t
@@ -39,12 +38,12 @@ pub record RowDivided (p n m w i : ℕ) (pivot : Pivot) (r u v r' u' v' : List �
   pub v_multiplied : ColumnScaled p n w c i v v'
 
 -- matrices that the buffers hold, with the pivots of the rows of R
-pub record MonicAsked (p reciprocal n m w : ℕ) (r u v : List ℕ) (pivots : List Pivot) : Type 0 where
-  pub ready : Ready p reciprocal
+pub record MonicAsked (p n m w : ℕ) (r u v : List ℕ) (pivots : List Pivot) : Type 0 where
   pub prime : Prime p
   pub bounds : Bounds n m w
   pub t : Carried (Zp p)
   pub holding : Holding p n m w r u v t
+  pub pivots_size : length pivots ≡ n
   pub pivots_are : Pivots n m (values_of m w r) pivots
 
 -- what the buffers held is divided; U and V follow

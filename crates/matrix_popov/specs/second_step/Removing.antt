@@ -1,5 +1,5 @@
 -- What the steps of the second kind ask on the buffers, and what they leave.
-use Rattle.std.specs.Prelude.{◌≡◌, List, ℕ, ◌+◌, ◌*◌, ◌-◌, ◌≤◌, ◌<◌, get_or}
+use Rattle.std.specs.Prelude.{◌≡◌, List, ℕ, ◌+◌, ◌*◌, ◌-◌, ◌≤◌, ◌<◌, length}
 use Rattle.theory_algebra.specs.Prime.{Prime}
 use Rattle.theory_algebra.specs.Residue.{Zp}
 use Rattle.theory_rings.specs.PrimeField.{zp_field}
@@ -11,10 +11,9 @@ use Rattle.theory_reduction.specs.Step.{Carried}
 use Rattle.theory_popov.specs.SecondRun.{SecondRuns}
 use Rattle.theory_popov.specs.Tidy.{Tidy}
 use Rattle.theory_popov.specs.Carries.{Carries}
-use Rattle.poly.specs.residues.Modulus.{Ready}
 use Rattle.matrix_promises.specs.Holding.{Holding}
 use Rattle.matrix_buffers.specs.Bounds.{Bounds}
-use Rattle.matrix_pivots.specs.Pivot.{values_of, zero_row, index_at, degree_at, Pivots}
+use Rattle.matrix_pivots.specs.Pivot.{values_of, index_at, Pivots}
 use Rattle.matrix_pivots.specs.declared.pivot.Pivot.{Pivot}
 use Rattle.matrix_rows.specs.Asked.{Short}
 use Rattle.matrix_steps.specs.multiple.Factor.{coefficient_at, leading_at, Divided}
@@ -24,8 +23,7 @@ use Rattle.matrix_steps.specs.Asked.{MoveAsked}
 use Rattle.matrix_popov.specs.second_step.Excess.{excess_at}
 
 -- row k has a term of x^e times the leading term of row i, whose pivot is `low`
-pub record TermAsked (p reciprocal m w k i : ℕ) (low : Pivot) (e : ℕ) (r : List ℕ) : Type 0 where
-  pub ready : Ready p reciprocal
+pub record TermAsked (p m w k i : ℕ) (low : Pivot) (e : ℕ) (r : List ℕ) : Type 0 where
   pub prime : Prime p
   pub residues : Coefficients p r
   pub i_pivot : PivotAsked m w i low r
@@ -36,18 +34,17 @@ pub record TermAsked (p reciprocal m w k i : ℕ) (low : Pivot) (e : ℕ) (r : L
 abbrev pub Removes : (p m w k i : ℕ) (low : Pivot) (e : ℕ) (r : List ℕ) (x c f : ℕ) → Type 0
 Removes p m w k i low e r = Divided p (coefficient_at m w r k low.index.0 (low.degree.0 + e)) (leading_at m w r i low) e
 
--- such a term, where that multiple of row i fits
-pub record RemoveAsked (p reciprocal n m w k i e : ℕ) (r u v : List ℕ) (pivots : List Pivot) : Type 0 where
-  pub rows : n ≤ 8
-  pub term : TermAsked p reciprocal m w k i (get_or pivots i zero_row) e r
-  pub i_short : Short w (degree_at pivots i) m (spot m w i) r
-  pub k_most : degree_at pivots k ≤ w
-  pub move : MoveAsked p n w k i e (n * w - e) (w + 1 - degree_at pivots k) u v
+-- such a term, where that multiple of row i fits; the pivot of row k is `high`
+pub record RemoveAsked (p n m w k i : ℕ) (high low : Pivot) (e : ℕ) (r u v : List ℕ) : Type 0 where
+  pub term : TermAsked p m w k i low e r
+  pub i_short : Short w low.degree.0 m (spot m w i) r
+  pub k_most : high.degree.0 ≤ w
+  pub move : MoveAsked p n w k i e (n * w - e) (w + 1 - high.degree.0) u v
 
 -- a step of the second kind: "subtract the multiple"
-abbrev pub SecondMove : (p n m w k i e : ℕ) (pivots : List Pivot) (r u v r' u' v' : List ℕ) → Type 0
-SecondMove p n m w k i e pivots r u v =
-    Moved p n m w k i (coefficient_at m w r k (index_at pivots i) (degree_at pivots i + e)) (leading_at m w r i (get_or pivots i zero_row)) e r u v
+abbrev pub SecondMove : (p n m w k i : ℕ) (low : Pivot) (e : ℕ) (r u v r' u' v' : List ℕ) → Type 0
+SecondMove p n m w k i low e r u v =
+    Moved p n m w k i (coefficient_at m w r k low.index.0 (low.degree.0 + e)) (leading_at m w r i low) e r u v
 
 -- the buffers hold a state t that was carried from a bounded matrix A; the first `rank` rows of its R are not zero and ascend, the others
 -- are zero
@@ -58,10 +55,10 @@ pub record Standing (p : ℕ) (P : Prime p) (n m w rank : ℕ) (A : ℕ → Row 
   pub carries : Carries (zp_field p P) n m w A t
 
 -- such a state with the pivots of its rows
-pub record RemovingAsked (p reciprocal n m w : ℕ) (r u v : List ℕ) (pivots : List Pivot) : Type 0 where
-  pub ready : Ready p reciprocal
+pub record RemovingAsked (p n m w : ℕ) (r u v : List ℕ) (pivots : List Pivot) : Type 0 where
   pub prime : Prime p
   pub bounds : Bounds n m w
+  pub pivots_size : length pivots ≡ n
   pub pivots_are : Pivots n m (values_of m w r) pivots
   pub rank : ℕ
   pub A : ℕ → Row (Zp p)
@@ -73,8 +70,8 @@ pub record ClearedTo (m w k : ℕ) (r : List ℕ) (pivots : List Pivot) : Type 0
   pub none : (a j : ℕ) → j < a → a < k → excess_at m w r pivots a j ≡ 0
 
 -- and row k, which is not zero, is the next
-pub record ClearAsked (p reciprocal n m w k : ℕ) (r u v : List ℕ) (pivots : List Pivot) : Type 0 where
-  pub removing : RemovingAsked p reciprocal n m w r u v pivots
+pub record ClearAsked (p n m w k : ℕ) (r u v : List ℕ) (pivots : List Pivot) : Type 0 where
+  pub removing : RemovingAsked p n m w r u v pivots
   pub before : ClearedTo m w k r pivots
   pub k_fits : k < n
   pub k_some : 0 < index_at pivots k

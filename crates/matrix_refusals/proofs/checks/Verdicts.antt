@@ -1,19 +1,18 @@
--- From the parts of the checks to the verdict of the whole.
-use mathlib.Core.Path.{◌≡◌, refl, sym, ap, subst, ◌∙◌}
+-- What the parts of the checks say of the whole.
+use mathlib.Core.Path.{◌≡◌, refl, sym, ap, subst}
 use mathlib.Core.Logic.{◌≢◌, inl, inr}
 use mathlib.Core.List.{List, [], ◌∷◌, ◌++◌}
-use Prim.Native.Nat.{ℕ, zero, suc, ◌+◌, ◌*◌, ◌<◌}
+use Prim.Native.Nat.{ℕ, zero, suc, ◌+◌, ◌<◌}
 use native.Mathlib.Omega.{arith}
-use lib.ListN.{length, get_or}
-use Rattle.poly.specs.residues.Modulus.{Ready}
-use Rattle.matrix_buffers.specs.Bounds.{Bounds, Checked}
+use lib.ListN.{get_or}
+use Rattle.matrix_buffers.specs.Bounds.{Bounds}
 use Rattle.matrix_promises.specs.Answering.{Rule, Told}
 use Rattle.matrix_refusals.specs.Number.{Verdict}
 use Rattle.matrix_promises.specs.Refused.{Numbers, FirstWrong, number_rules, length_rule}
 use Rattle.matrix_refusals.specs.declared.Refusal.{Refusal}
 use Rattle.std.specs.Prelude.{Result, Ok, Err}
 use Rattle.matrix_refusals.proofs.Answering.{refusal-number}
-use Rattle.matrix_promises.proofs.Tables.{told-first, in-range, InOrder, sized}
+use Rattle.matrix_promises.proofs.Tables.{told-first, in-range}
 
 -- the first buffer is wrong, or it is right and the first wrong one comes later
 pub wrong-here : (a x : ℕ) (given wanted : List ℕ) → a ≢ x → FirstWrong (a ∷ given) (x ∷ wanted) 1
@@ -83,16 +82,4 @@ in_bounds h = record {
   columns_most = h.shape.columns_most;
   places = omega arith;
   places_most = omega (arith, h.degree);
-}
-
--- the input of a service whose checks have passed, or a copy of it, is a matrix that the work behind them can take
-pub checked : {p n m d : ℕ} {given wanted a : List ℕ}
-    → InOrder p n m d (length a ∷ given) (n * (m * (d + 1)) ∷ wanted) a
-    → {q reciprocal : ℕ} {r : List ℕ} → q ≡ p → Ready q reciprocal → r ≡ a → Checked q reciprocal n m (d + 1) r
-checked order q-is ready r-is = record {
-  ready = ready;
-  prime = rw q-is order.numbers.modulus.prime;
-  bounds = in_bounds order.numbers;
-  size = ap length r-is ∙ sized order 0;
-  residues = rw q-is (rw r-is order.residues);
 }

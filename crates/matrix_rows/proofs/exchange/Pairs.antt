@@ -1,5 +1,5 @@
 -- Pairs of cells that change places, one pair after the other.
-use mathlib.Core.Path.{◌≡◌, refl, sym, ◌∙◌}
+use mathlib.Core.Path.{◌≡◌, sym, ◌∙◌}
 use mathlib.Core.List.{List}
 use Prim.Native.Nat.{ℕ, suc, ◌+◌, ◌<◌}
 use native.Mathlib.Omega.{arith}
@@ -7,9 +7,6 @@ use lib.ListN.{get_or}
 use Rattle.theory_algebra.proofs.Cases.{case-le}
 use Rattle.theory_lists.specs.Place.{Outside}
 use Rattle.matrix_buffers.specs.Exchanged.{CellsExchanged}
-
-pub none-exchanged : {w : ℕ} {one other : ℕ → ℕ → ℕ} {b : List ℕ} → CellsExchanged w 0 one other b b
-none-exchanged = record { size = refl; exchanged = λ i t l _. absurd (omega arith); others = λ _ _ _. refl }
 
 -- `one i` and `other i` are the next pair, after i pairs that changed places, and have no place of theirs
 module _ {w i : ℕ} {one other : ℕ → ℕ → ℕ} {b₀ b : List ℕ}

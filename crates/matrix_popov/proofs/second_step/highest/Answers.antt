@@ -1,35 +1,15 @@
-use native.Mathlib.Omega.{arith}
-use mathlib.Core.Path.{◌≡◌}
-use Rattle.matrix_popov.proofs.second_step.Searching.{highest-start, highest-new, highest-old}
+use Rattle.std.proofs.Common.{refl, ◌<◌, arith, length-take}
+use Rattle.std.proofs.lemmas.List.{get_or-take}
+use Rattle.matrix_pivots.specs.declared.pivot.Pivot.{Pivot}
+use Rattle.matrix_popov.proofs.second_step.Searching.{highest-on, highest-off}
 use Rattle.matrix_popov.proofs.second_step.highest.Goals as goal
-use Rattle.matrix_popov.proofs.second_step.highest.Goals.{then-most-e, else-most-e}
-
-pub loop-i-init : goal.loop-i-init
-loop-i-init c = (omega arith, highest-start _)
-
-pub offset_bounds-pivots-i : goal.offset_bounds-pivots-i
-offset_bounds-pivots-i c = omega (arith, c.requires.before)
-
-pub bounds-pivots-i : goal.bounds-pivots-i
-bounds-pivots-i c = omega (arith, c.requires.before)
-
-pub excess-e-requires : goal.excess-e-requires
-excess-e-requires c = c.requires.rows _ (omega arith)
+use Rattle.matrix_popov.proofs.second_step.highest.Goals.{then-lt, else-lt}
 
 pub loop-i-preserved : goal.loop-i-preserved
 loop-i-preserved c =
-    let found = c.excess-e.ensures in
-    let new = highest-new c.loop-i.invariant.1 in
-    let old = highest-old c.loop-i.invariant.1 in (
-      omega arith,
-      elim c.if-most-e.branch [
-        | then-most-e w ↦ rw (w.at-is, w.most-is, found) (new (omega (arith, w.if-most-e.true, found)))
-        | else-most-e w ↦ rw (w.at-is, w.most-is) (old (omega (arith, w.if-most-e.false, found)))
-      ],
-    )
-
-pub returns : goal.returns
-returns c =
-    let head = c.loop-i in
-    let all : head.i ≡ c.args.k = omega arith in
-    rw all at head.invariant.1
+    let inside : c.loop-i.i < c.args.k = omega (arith, length-take {A = Pivot}) in
+    let found = rw get_or-take at c.excess-e.ensures in
+    elim c.if-lt.branch [
+      | then-lt w ↦ rw (w.at-is, w.most-is) (highest-on (λ _ _. refl) _ _ _ _ _ c.loop-i.invariant found w.if-lt.ensures)
+      | else-lt w ↦ rw (w.at-is, w.most-is) (highest-off (λ _ _. refl) _ _ _ _ _ c.loop-i.invariant found w.if-lt.ensures)
+    ]
