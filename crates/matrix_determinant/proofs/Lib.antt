@@ -3,7 +3,7 @@ pub mod LastColumn
 mod FirstStage
 mod FirstColumns
 mod ZeroRow
-mod Turning
 mod Fronts
+mod Turning
 mod Beginning
 mod Whole

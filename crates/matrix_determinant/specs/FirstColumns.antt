@@ -1,11 +1,10 @@
 -- What a stage of the determinant has in its buffers, and what its steps ask and leave.
-use Rattle.std.specs.Prelude.{List, ℕ, suc, ◌-◌, ◌≤◌, ◌<◌}
+use Rattle.std.specs.Prelude.{List, ℕ, suc, ◌-◌, ◌<◌}
 use Rattle.theory_algebra.specs.Prime.{Prime}
 use Rattle.theory_algebra.specs.Residue.{Zp}
 use Rattle.theory_rings.specs.PrimeField.{zp_field}
 use Rattle.theory_lattice.specs.Row.{Row}
 use Rattle.theory_determinant.specs.Stage.{Stage}
-use Rattle.poly.specs.residues.Modulus.{Ready}
 use Rattle.matrix_promises.specs.Held.{Held}
 use Rattle.matrix_promises.specs.Layout.{by_rows}
 use Rattle.theory_reduction.specs.Pair.{NoPair}
@@ -20,20 +19,10 @@ pub record RowsHeld (p : ℕ) (P : Prime p) (m w wide budget : ℕ) (whole f : �
   pub parted : Held (by_rows (suc m) 1 wide) p column (λ s _. T s m)
   pub stage : Stage (zp_field p P) w (wide - 1) whole budget m T f
 
--- at most eight rows, 64 places a cell, and 512 a cell of the parted column, which has no fewer than the others
-pub record Sizes (m w wide : ℕ) : Type 0 where
-  pub columns_most : m < 8
-  pub places : 0 < w
-  pub places_most : w ≤ 64
-  pub widened : w ≤ wide
-  pub wide_most : wide ≤ 512
-
 -- such buffers, of at least one column beside the parted one
-pub record ReduceAsked (p reciprocal m w wide budget : ℕ) (r column : List ℕ) : Type 0 where
-  pub ready : Ready p reciprocal
+pub record ReduceAsked (p m w wide budget : ℕ) (r column : List ℕ) : Type 0 where
   pub prime : Prime p
   pub columns : 0 < m
-  pub sizes : Sizes m w wide
   pub whole : ℕ → Zp p
   pub f : ℕ → Zp p
   pub held : RowsHeld p prime m w wide budget whole f r column

@@ -1,4 +1,5 @@
 pub mod scratch
+pub mod Sizes
 pub mod SignedProduct
 pub mod LastColumn
 pub mod FirstStage

@@ -1,27 +1,17 @@
 // A row is taken out.
-ghost use Rattle.std.specs.Prelude.{suc, ◌<◌};
 ghost use Rattle.matrix_determinant.specs.ZeroRow.{LowestZero, TakeAsked, TakenOut};
 
-use crate::{last_column, product};
+use crate::last_column;
+use crate::product::{Sign, multiply};
+use crate::stage::Stage;
 use matrix_pivots::Pivot;
 use poly::Modulus;
 
-// "Of several zero rows the lowest is taken": of m + 1 rows, by their pivots, or m + 1 where none is zero.
-fn lowest_zero(pivots: [Pivot; 8], m: usize) -> usize
-    requires { m < 8 }
-    ensures { LowestZero (suc m) pivots result }
+// "Of several zero rows the lowest is taken": by the pivots of the rows, none where no row is zero.
+fn lowest_zero(pivots: &[Pivot]) -> Option<usize>
+    ensures { LowestZero pivots.now result }
 {
-    let rows = m + 1;
-    let mut i = 0;
-    while i < rows {
-        let pivot = pivots[i];
-        let x = pivot.index;
-        if x.is_zero_row() {
-            return i;
-        }
-        i += 1;
-    }
-    i
+    pivots.iter().position(|pivot| pivot.index.is_zero_row())
 }
 
 // The lowest row that the steps have left zero is taken out: its entry in the parted column, with the sign of Figure 4, is a factor, and
@@ -31,20 +21,18 @@ pub(crate) fn take_out(
     column: &mut [u16],
     next: &mut [u16],
     product: &mut [u16],
-    pivots: [Pivot; 8],
-    m: usize,
-    w: usize,
-    wide: usize,
+    pivots: &[Pivot],
+    stage: Stage,
     md: Modulus,
 )
-    requires { TakeAsked md.p md.reciprocal m w wide pivots r.now column.old next.old product.old }
-    ensures { TakenOut md.p m w wide pivots r.now column.old product.old next.new column.new product.new }
+    requires { TakeAsked md.p stage.m stage.w stage.wide pivots.now r.now column.old next.old product.old }
+    ensures { TakenOut md.p stage.m stage.w stage.wide pivots.now r.now column.old product.old next.new column.new product.new }
 {
-    let k = lowest_zero(pivots, m);
-    let negative = (k + m) % 2 == 1;
-    let at = k * wide;
-    let end = at + wide;
-    product::multiply(product, &column[at..end], negative, md);
-    let cells = m * wide;
-    last_column::part(r, &mut column[..cells], next, k, m, w, wide);
+    let k = lowest_zero(pivots).unwrap();
+    let at = k * stage.wide;
+    let entry = &column[at..at + stage.wide];
+    multiply(product, entry, Sign::of(k + stage.m), md);
+    let left = stage.smaller();
+    let cells = left.cells();
+    last_column::part(r, &mut column[..cells], next, k, left);
 }

@@ -1,13 +1,10 @@
-use borrow.Author.Rules.{rules}
-use Rattle.matrix_determinant.proofs.Whole.{lay-asked, stages-asked, is-determinant}
+use mathlib.Core.Path.{◌∙◌}
+use Rattle.matrix_determinant.proofs.Whole.{stages-asked, is-determinant}
 use Rattle.matrix_determinant.proofs.determinant.Goals as goal
 
-pub lay-requires : goal.lay-requires
-lay-requires c = search (rules, lay-asked)
-
 pub run-requires : goal.run-requires
-run-requires c = search (rules, stages-asked)
+run-requires c =
+    stages-asked c.requires c.lay.ensures (c.lay.auto.r ∙ c.zeros-columns.ensures.0) (c.lay.auto.column ∙ c.zeros-column.ensures.0)
 
 pub returns : goal.returns
-returns c =
-    is-determinant c.requires c.lay.ensures (search rules)
+returns c = is-determinant c.requires c.lay.ensures c.run.ensures

@@ -5,8 +5,8 @@ use Rattle.matrix_pivots.specs.Pivot.{values_of}
 use Rattle.matrix_determinant.proofs.FirstColumns.{Going}
 use Rattle.matrix_determinant.proofs.first_columns.reduce_columns.Given as goal
 
-abbrev pub invariant-loop-l : goal.invariant-loop-l
-invariant-loop-l l = Going l.md.p l.md.reciprocal l.m l.w l.wide l.budget l.initial.r l.initial.column l.r l.column l.pivots
+abbrev pub invariant-loop-step : goal.invariant-loop-step
+invariant-loop-step l = Going l.md.p l.fn.stage.m l.fn.stage.w l.fn.stage.wide l.budget l.initial.r l.initial.column l.r l.column l.pivots
 
-abbrev pub decreases-loop-l : goal.decreases-loop-l
-decreases-loop-l l = total (suc l.m) (values_of l.m l.w l.r)
+abbrev pub decreases-loop-step : goal.decreases-loop-step
+decreases-loop-step l = total (suc l.fn.stage.m) (values_of l.fn.stage.m l.fn.stage.w l.r)

@@ -1,7 +1,6 @@
-use Rattle.matrix_determinant.proofs.LastColumn.{copied, cleared, filled}
+use Rattle.std.proofs.Common.{rules}
+use Rattle.std.proofs.lemmas.List.{places}
 use Rattle.matrix_determinant.proofs.last_column.fill.Goals as goal
 
 pub returns : goal.returns
-returns c =
-    let first = copied c.requires c.copy.ensures in
-    filled c.requires first (cleared c.requires first c.clear.ensures)
+returns c = λ t. search (rules, places)

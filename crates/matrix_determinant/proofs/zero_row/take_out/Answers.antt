@@ -1,39 +1,24 @@
-use borrow.Author.Rules.{rules}
 use native.Mathlib.Nat.{add-sub_cancel_left}
-use native.Mathlib.Omega.{arith}
-use mathlib.Core.Path.{sym}
-use Prim.Native.Nat.{◌+◌, ◌*◌, ◌≤◌}
-use lib.ListN.{length}
-use lib.Seq.{length-take-le}
-use Rattle.matrix_determinant.proofs.ZeroRow.{entry-fits, cells_fit, left-asked, taken_out}
+use Rattle.matrix_determinant.specs.ZeroRow.{Lowest}
+use Rattle.matrix_determinant.proofs.ZeroRow.{left-asked, taken_out}
 use Rattle.matrix_determinant.proofs.zero_row.take_out.Goals as goal
-use Rattle.matrix_determinant.proofs.zero_row.take_out.Goals.{After-lowest_zero-k}
+use Rattle.matrix_determinant.proofs.zero_row.take_out.Goals.{After-unwrap-k}
 
--- the row that is found lies in the column
-fits : (c : After-lowest_zero-k) → let args = c.args in
-    c.lowest_zero-k.result * args.wide + args.wide ≤ length args.column.now
-fits c = entry-fits c.requires c.lowest_zero-k.ensures
-
-pub overflow_mul-at : goal.overflow_mul-at
-overflow_mul-at c = omega (arith, fits (goal.at.overflow_mul-at c).After-lowest_zero-k)
-
-pub overflow_add-end : goal.overflow_add-end
-overflow_add-end c = omega (arith, fits (goal.at.overflow_add-end c).After-lowest_zero-k)
-
-pub offset_bounds-column-at : goal.offset_bounds-column-at
-offset_bounds-column-at c = omega (arith, fits (goal.at.offset_bounds-column-at c).After-lowest_zero-k)
+lowest : (c : After-unwrap-k) → Lowest c.args.pivots.now c.unwrap-k.result
+lowest c = rw c.unwrap-k.ensures at c.lowest_zero.ensures
 
 pub multiply-requires : goal.multiply-requires
 multiply-requires c =
-    rw add-sub_cancel_left (c.requires.row _ c.lowest_zero-k.ensures).1
-
-pub slice_bounds-part-end-2 : goal.slice_bounds-part-end-2
-slice_bounds-part-end-2 c = sym (length-take-le _ _ (search (rules, cells_fit)))
+    rw add-sub_cancel_left (c.requires.row _ (lowest (goal.at.multiply-requires c).After-unwrap-k))
 
 pub part-requires : goal.part-requires
-part-requires c = search (rules, left-asked)
+part-requires c =
+    let left = c.smaller-left.ensures in
+    rw (c.cells-cells.ensures, left.columns, left.places, left.widened)
+    (left-asked c.requires (lowest (goal.at.part-requires c).After-unwrap-k))
 
 pub returns : goal.returns
 returns c =
-    taken_out c.requires c.lowest_zero-k.ensures _ c.part.ensures
-    (rw add-sub_cancel_left at c.multiply.ensures)
+    let left = c.smaller-left.ensures in
+    taken_out c.requires (lowest (goal.at.returns c).After-unwrap-k) _ (rw (left.columns, left.places, left.widened) at c.part.ensures)
+    (rw (c.of.ensures, add-sub_cancel_left) at c.multiply.ensures)

@@ -1,5 +1,0 @@
-use Rattle.matrix_determinant.proofs.scratch.Replicate.{zeros-new}
-use Rattle.matrix_determinant.proofs.scratch.columns.Goals as goal
-
-pub returns : goal.returns
-returns c = zeros-new 3584
