@@ -1,11 +1,10 @@
 -- The example of paper 01's printer.
-use mathlib.Core.Path.{◌≡◌, refl, sym, ◌∙◌}
+use mathlib.Core.Path.{◌≡◌, refl, sym, ap, ◌∙◌}
 use mathlib.Core.Logic.{inr}
-use mathlib.Core.List.{[], ◌∷◌}
+use mathlib.Core.List.{[], ◌∷◌, ◌++◌}
 use mathlib.Core.Option.{get}
 use native.Mathlib.Omega.{arith}
-use lib.ListN.{get_or, replicate}
-use lib.Seq.{sets-eq}
+use lib.ListN.{length, get_or, drop, replicate}
 use borrow.Author.Tests.{leb-true}
 use Rattle.theory_lists.specs.Coefficients.{Coefficients}
 use Rattle.matrix_promises.specs.Refused.{Numbers}
@@ -17,8 +16,6 @@ use Rattle.printer_format.specs.Line.{row, lines, starts_with, numbers, read_lin
 use Rattle.printer_format.specs.File.{head_lines, body_lines}
 use Rattle.printer_format.specs.Answer.{answer_text}
 use Rattle.printer_files.specs.Table.{cells_table}
-use Rattle.printer_writing.specs.Wrote.{written}
-use Rattle.printer_writing.proofs.Writing.{wrote_as}
 use Rattle.printer_library.specs.Printed.{Printed}
 use Rattle.printer_library.proofs.Unique.{printed-unique}
 use Rattle.examples.specs.Answers.{Answers}
@@ -71,7 +68,7 @@ answered = let cells = cells_table 7 (body_lines (head_lines text_in)) in record
 
 -- so it is the one
 pub paper-printed : Prints text_in text_out
-unfolding written
 paper-printed out size out' room output =
-    let wrote = wrote_as (printed-unique text_in _ _ output.is answered) output.wrote in
-    (wrote.next, wrote.now ∙ sets-eq text_out out 0 (rw room (leb-true _ _ refl)))
+    let same : output.text ≡ text_out = printed-unique text_in _ _ output.is answered in
+    let all : size ≡ length text_out = output.all ∙ ap length same in
+    (all, output.wrote ∙ (λ i. same i ++ drop (all i) out))

@@ -53,7 +53,8 @@ fn answer<R: Read, W: Write>(input: &mut R, output: &mut W) -> io::Result<()>
     output.write_all(&out[..used])
 }
 
-// Reads until buf is full, the input ends or a read fails, and returns how many bytes it put at the start of buf.
+// Reads until buf is full, the input ends or a read fails, and returns how many bytes it put at the start of buf. It is a loop over
+// `read`: `read_exact` and `io::copy` do not say what was read before a failure.
 fn read_full<R: Read>(input: &mut R, buf: &mut [u8]) -> usize
     ensures in_bounds { result ≤ length buf.new }
     ensures bytes { Consumes (R.remaining input.old) (R.remaining input.new) (take result buf.new) }

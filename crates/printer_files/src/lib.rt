@@ -1,12 +1,12 @@
 // Reading the printer's input: its head, its cells, and the refusals in the paper's order.
 #![tactic(auto)]
 
-ghost use Rattle.std.specs.Prelude.{◌≡◌, length, IfErr};
+ghost use Rattle.std.specs.Prelude.{◌≡◌, length, IfErr, Err};
 ghost use Rattle.std.specs.Result.{result_ok};
 ghost use Rattle.printer_format.specs.Line.{read_line};
 ghost use Rattle.printer_format.specs.File.{head_lines, cell_lines};
 ghost use Rattle.printer_reading.specs.Read.{FieldRead, CellsAsked};
-ghost use Rattle.printer_files.specs.Input.{HeadRead, MatrixRead, BodyRead, FileRead};
+ghost use Rattle.printer_files.specs.Input.{input_number, input_place, HeadRead, MatrixRead, BodyRead, FileRead};
 ghost use Rattle.printer_files.specs.declared.InputError.TheVariants.{Format, Refused};
 
 use matrix_refusals::{Numbers, Refusal, checks};
@@ -18,6 +18,28 @@ use printer_reading::WrongCell;
 pub enum InputError {
     Format(usize),
     Refused(Refusal),
+}
+
+impl InputError {
+    // The number of a refusal, by the printer's refusal table.
+    pub fn number(self) -> usize
+        ensures { result ≡ input_number (Err self) }
+    {
+        match self {
+            InputError::Format(_) => 7,
+            InputError::Refused(x) => x.number(),
+        }
+    }
+
+    // The place that is printed with it.
+    pub fn place(self) -> usize
+        ensures { result ≡ input_place (Err self) }
+    {
+        match self {
+            InputError::Format(line) => line,
+            InputError::Refused(x) => x.place(),
+        }
+    }
 }
 
 impl From<Refusal> for InputError {

@@ -4,6 +4,7 @@ use mathlib.Core.Bool.{Bool, true, false, cond}
 use mathlib.Core.List.{List, [], ◌++◌}
 use Prim.Native.Nat.{ℕ}
 use native.Mathlib.Omega.{arith}
+use lib.ListN.{length, drop}
 use lib.Dec.{eqb}
 use borrow.Author.Tests.{eqb-true}
 use Rattle.theory_algebra.specs.Prime.{Prime}
@@ -15,7 +16,6 @@ use Rattle.printer_format.specs.Answer.{refusal_text, counts_text, result_text, 
 use Rattle.printer_files.specs.Table.{printer_table}
 use Rattle.printer_files.proofs.Unique.{printer-unique}
 use Rattle.printer_files.proofs.Accepted.{accepted}
-use Rattle.printer_writing.proofs.Writing.{wrote-unique, wrote_as}
 use Rattle.printer_library.specs.Printed.{MatrixAnswer, Printed, Output}
 
 -- the line of the determinant is one, also where there is none
@@ -44,4 +44,7 @@ printed-unique s w w' x y =
 -- so two outputs that the promise allows are equal in length and content
 pub output-unique : (s out : List ℕ) (k l : ℕ) (out₁ out₂ : List ℕ) → Output (Printed s) out k out₁ → Output (Printed s) out l out₂
     → (k ≡ l) × (out₁ ≡ out₂)
-output-unique s out k l out₁ out₂ x y = wrote-unique (wrote_as (printed-unique s _ _ x.is y.is) x.wrote) y.wrote
+output-unique s out k l out₁ out₂ x y =
+    let texts : x.text ≡ y.text = printed-unique s x.text y.text x.is y.is in
+    let sizes : k ≡ l = x.all ∙ ap length texts ∙ sym y.all in
+    (sizes, x.wrote ∙ (λ i. texts i ++ drop (sizes i) out) ∙ sym y.wrote)

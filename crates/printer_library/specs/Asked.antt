@@ -3,22 +3,12 @@ use Rattle.std.specs.Prelude.{◌≡◌, List, ℕ, ◌+◌, ◌*◌, length}
 use Rattle.theory_lists.specs.Coefficients.{Coefficients}
 use Rattle.matrix_promises.specs.Refused.{Numbers}
 use Rattle.matrix_promises.specs.Reduced.{IsReducedAlone}
-use Rattle.matrix_promises.specs.Determinant.{IsDeterminant}
 
 -- an n by m matrix that no refusal applies to
 pub record MatrixTaken (p n m d : ℕ) (a : List ℕ) : Type 0 where
   pub numbers : Numbers p n m d
   pub size : length a ≡ n * (m * (d + 1))
   pub residues : Coefficients p a
-
--- and room for its determinant
-pub record DeterminantAsked (p n m d : ℕ) (a det : List ℕ) : Type 0 where
-  pub matrix : MatrixTaken p n m d a
-  pub places : length det ≡ n * d + 1
-
--- which holds it at exit, if the matrix has one
-pub record Determined (p n m d : ℕ) (a det : List ℕ) : Type 0 where
-  pub determinant : n ≡ m → IsDeterminant p n d a det
 
 -- a matrix that is reduced to r
 pub record ResultAsked (p n m d : ℕ) (a r : List ℕ) (rank count : ℕ) : Type 0 where

@@ -1,7 +1,7 @@
 -- What the printer writes for a text: a relation between the bytes that it reads and the bytes that it writes. Which text is taken is
 -- said in `printer_format`, files Number, Line and File; how an answer is written, there in Answer; which refusal and place every other
 -- text gets, in `printer_files`, file Table. That a text has one answer only is `Unique.printed-unique`.
-use Rattle.std.specs.Prelude.{◌≡◌, List, ℕ, ◌+◌, ◌≤◌, ◌<◌}
+use Rattle.std.specs.Prelude.{◌≡◌, List, ℕ, ◌+◌, ◌≤◌, ◌<◌, ◌++◌, length, drop}
 use Rattle.matrix_promises.specs.Answering.{Told}
 use Rattle.matrix_promises.specs.Reduced.{IsReducedAlone}
 use Rattle.matrix_promises.specs.Determinant.{IsDeterminant}
@@ -9,7 +9,6 @@ use Rattle.printer_format.specs.Line.{Lines}
 use Rattle.printer_format.specs.File.{head_lines, numbers_of, head_modulus, head_rows, head_columns, head_degree, body_lines}
 use Rattle.printer_format.specs.Answer.{refusal_text, answer_text, output_room}
 use Rattle.printer_files.specs.Table.{printer_table}
-use Rattle.printer_writing.specs.Wrote.{Wrote}
 
 -- w is the answer for the n by m matrix in a: "`rank=` is the rank; `steps=` is the count; the `r` lines are R", which the reduction
 -- makes of a, and "`det=` stands only where n equals m"
@@ -39,5 +38,6 @@ pub record Printed (s w : List ℕ) : Type 0 where
 pub record Output (Is : List ℕ → Type 0) (out : List ℕ) (size : ℕ) (out' : List ℕ) : Type 0 where
   pub text : List ℕ
   pub is : Is text
-  pub wrote : Wrote out 0 text size out'
+  pub all : size ≡ length text
+  pub wrote : out' ≡ text ++ drop size out
   pub fits : size ≤ output_room

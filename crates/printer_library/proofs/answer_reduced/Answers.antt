@@ -1,0 +1,43 @@
+use Rattle.std.proofs.Common.{◌≡◌, ◌+◌, ◌*◌, length, ◌∙◌, arith, length-take-le}
+use Rattle.printer_format.proofs.Room.{Answerable, answer-length}
+use Rattle.matrix_promises.specs.Determinant.{IsDeterminant}
+use Rattle.printer_library.proofs.Answers.{determinant-few, determined, result-answerable}
+use Rattle.printer_library.proofs.answer_reduced.Goals as goal
+use Rattle.printer_library.proofs.answer_reduced.Goals.{After-determinant}
+
+-- the places of the determinant
+places : (c : After-determinant) → length c.determinant.new.r ≡ c.args.head.n * c.args.head.d + 1
+places c = c.determinant.auto.r ∙ length-take-le _ _ (determinant-few c.requires.matrix.numbers)
+
+found : (c : After-determinant) → c.args.head.n ≡ c.args.head.m
+    → IsDeterminant c.args.head.p c.args.head.n c.args.head.d c.args.a.now c.determinant.new.r
+found c = determined c.requires.matrix (length-take-le _ _ (determinant-few c.requires.matrix.numbers)) c.determinant.ensures
+
+answerable : (c : After-determinant)
+    → Answerable c.args.found.rank c.args.found.count c.args.head.n c.args.head.m c.args.head.d c.args.r.now c.determinant.new.r
+answerable c = result-answerable c.requires (places c) (found c) (omega arith) (omega arith)
+
+pub put_answer-requires : goal.put_answer-requires
+put_answer-requires c =
+    let written = answerable (goal.at.put_answer-requires c).After-determinant in
+    record {
+      matrix = record {
+        rows = written.rows;
+        some_columns = c.requires.matrix.numbers.shape.columns;
+        columns = written.columns;
+        degree = written.degree;
+        places = written.result-size;
+      };
+      room = rw c.new-page.ensures (answer-length _ _ _ _ _ _ _ written);
+    }
+
+pub returns : goal.returns
+returns c = record {
+  r = _;
+  rank = _;
+  count = _;
+  reduced = c.requires.reduced;
+  det = c.determinant.new.r;
+  determinant = found (goal.at.returns c).After-determinant;
+  is = rw c.new-page.ensures at c.put_answer.ensures;
+}
