@@ -1,11 +1,12 @@
 // The whole reduction.
 ghost use Rattle.matrix_promises.specs.Reduced.{IsReduction};
+ghost use Rattle.matrix.specs.Call.{whole_call};
 ghost use Rattle.matrix.specs.Asked.{WorkAsked};
 ghost use Rattle.matrix.specs.Reduction.{Answered};
 
 use matrix_buffers::Shape;
 use matrix_reduction::{Reached, nonzero_rows};
-use matrix_refusals::{Refusal, checks};
+use matrix_refusals::{Numbers, Refusal, checks};
 use matrix_rows::write_identity;
 use poly::{Modulus, arithmetic};
 
@@ -19,20 +20,17 @@ pub struct Reduction {
 
 // "U·A = R, V·R = A": the weak Popov form of the matrix in a, or a refusal that leaves every buffer as it was.
 pub fn reduce(
-    p: u32,
-    n: usize,
-    m: usize,
-    d: usize,
+    numbers: Numbers,
     a: &[u16],
     r: &mut [u16],
     u: &mut [u16],
     v: &mut [u16],
 ) -> Result<Reduction, Refusal>
-    ensures { Answered (record { p = p; n = n; m = m; d = d; a = a.now; r = r.old; u = u.old; v = v.old }) r.new u.new v.new result }
+    ensures { Answered (whole_call numbers a.now r.old u.old v.old) r.new u.new v.new result }
 {
-    checks::check_reduction(p, n, m, d, a, r.len(), u.len(), v.len())?;
-    let shape = Shape { n, m, w: d + 1 };
-    let x = work(a, r, u, v, shape, Modulus::of(p));
+    checks::check_reduction(numbers, a, r.len(), u.len(), v.len())?;
+    let shape = numbers.shape();
+    let x = work(a, r, u, v, shape, Modulus::of(numbers.p));
     Ok(Reduction {
         rank: x.rank,
         count: x.count,
