@@ -1,6 +1,6 @@
 // Which calls are refused, and why: the checks in the paper's order. Nothing is written here, so that every buffer of a
 // refused call holds what it held.
-ghost use Rattle.std.specs.Prelude.{◌≡◌, true, ◌↔◌, ◌+◌, ◌*◌, ◌≤◌, ◌<◌, [], ◌∷◌, length, MatchOption};
+ghost use Rattle.std.specs.Prelude.{◌≡◌, ◌↔◌, ◌+◌, ◌*◌, ◌≤◌, ◌<◌, [], ◌∷◌, length, MatchOption, IsTrue};
 ghost use Rattle.matrix_refusals.specs.Number.{Verdict};
 ghost use Rattle.matrix_promises.specs.Refused.{FirstHigh, reduction_sizes, step_sizes};
 ghost use Rattle.matrix_promises.specs.Refused.{number_rules, length_rule, coefficient_rule, matrix_table, determinant_table};
@@ -34,7 +34,7 @@ pub fn check_numbers(numbers: Numbers) -> Result<(), Refusal>
 
 // Whether a number of rows or columns is one of 1 to 8.
 fn one_to_eight(n: usize) -> bool
-    ensures { (result ≡ true) ↔ ((1 ≤ n) × (n ≤ 8)) }
+    ensures { IsTrue result ↔ ((1 ≤ n) × (n ≤ 8)) }
 {
     (1..=8).contains(&n)
 }

@@ -34,9 +34,7 @@ pub fn add_multiple(a: &mut [u16], b: &[u16], c: Residue, e: usize, md: Modulus)
     if n == 0 {
         return;
     }
-    let start = e;
-    let end = start + n;
-    add_scaled(&mut a[start..end], &b[..n], c, md);
+    add_scaled(&mut a[e..e + n], &b[..n], c, md);
 }
 
 // The sum of a_i·b_(k-i), over the places that both have.
