@@ -1,5 +1,5 @@
 -- A text is refused for one reason only, or read as one matrix.
-use mathlib.Core.Path.{◌≡◌, sym, ap, ◌∙◌}
+use mathlib.Core.Path.{◌≡◌, refl, sym, ap, ◌∙◌}
 use mathlib.Core.List.{List}
 use Prim.Native.Nat.{ℕ, ◌+◌, ◌*◌, ◌<◌}
 use native.Mathlib.Omega.{arith}
@@ -18,7 +18,7 @@ use Rattle.printer_format.specs.File.{head_lines, body_lines, numbers_of, head_m
 use Rattle.printer_files.specs.Table.{table_by, printer_table}
 use Rattle.printer_files.specs.Input.{input_number, input_place, InputRead, FileRead}
 use Rattle.printer_files.specs.declared.InputError.{InputError}
-use Rattle.printer_files.specs.declared.InputError.TheVariants.{Format, Refused}
+use Rattle.printer_files.specs.declared.InputError.TheVariants.{TooLong, Format, Refused}
 
 line-one : (first : ℕ) (x : Lines) → One (WrongLine first x)
 line-one first (read l s) i j f g = absurd f
@@ -45,12 +45,19 @@ less (Coefficient i) = omega arith
 -- what a text is read as is determined by its number and its place, and where it is a matrix by the numbers of the head
 input-one : {table : List Rule} {p n m d : ℕ} {s room room' : List ℕ} (x y : Result Numbers InputError) → input_number x ≡ input_number y
     → input_place x ≡ input_place y → InputRead table p n m d s room x → InputRead table p n m d s room' y → x ≡ y
+input-one (Err TooLong) (Err TooLong) numbers places f g = refl
+input-one (Err TooLong) (Err (Format j)) numbers places f g = absurd (omega (arith, places, g.line))
+input-one (Err TooLong) (Err (Refused y)) numbers places f g = absurd (omega (arith, numbers, less y))
+input-one (Err TooLong) (Ok head) numbers places f g = absurd (omega (arith, numbers))
+input-one (Err (Format i)) (Err TooLong) numbers places f g = absurd (omega (arith, places, f.line))
 input-one (Err (Format i)) (Err (Format j)) numbers places f g = ap (λ (k : ℕ). Err (Format k)) places
 input-one (Err (Format i)) (Err (Refused y)) numbers places f g = absurd (omega (arith, numbers, less y))
 input-one (Err (Format i)) (Ok head) numbers places f g = absurd (omega (arith, numbers))
+input-one (Err (Refused x)) (Err TooLong) numbers places f g = absurd (omega (arith, numbers, less x))
 input-one (Err (Refused x)) (Err (Format j)) numbers places f g = absurd (omega (arith, numbers, less x))
 input-one (Err (Refused x)) (Err (Refused y)) numbers places f g = ap (λ (z : Refusal). Err (Refused z)) (refusal-unique x y numbers places)
 input-one (Err (Refused x)) (Ok head) numbers places f g = absurd (omega (arith, numbers, refusal-number x))
+input-one (Ok head) (Err TooLong) numbers places f g = absurd (omega (arith, numbers))
 input-one (Ok head) (Err (Format j)) numbers places f g = absurd (omega (arith, numbers))
 input-one (Ok head) (Err (Refused y)) numbers places f g = absurd (omega (arith, numbers, refusal-number y))
 input-one (Ok head) (Ok head') numbers places f g =

@@ -1,5 +1,5 @@
 -- What the readers of the input ask and answer.
-use Rattle.std.specs.Prelude.{◌≡◌, List, [], ◌∷◌, ℕ, ◌+◌, ◌*◌, length, take, ⊤, Result, Ok, Err, IfOk, MatchResult}
+use Rattle.std.specs.Prelude.{◌≡◌, List, [], ◌∷◌, ℕ, ◌+◌, ◌*◌, ◌≤◌, length, take, ⊤, Result, Ok, Err, IfOk, MatchResult}
 use denote.Bor.{Bor}
 use Rattle.matrix_refusals.specs.Number.{number_of, place_of}
 use Rattle.matrix_refusals.specs.declared.Numbers.{Numbers}
@@ -8,18 +8,20 @@ use Rattle.printer_format.specs.Line.{Lines, read}
 use Rattle.printer_format.specs.File.{head_lines, numbers_of, rest_of, head_modulus, head_rows, head_columns, head_degree, cell_lines, WrongLine}
 use Rattle.printer_files.specs.Table.{body_table, table_by}
 use Rattle.printer_files.specs.declared.InputError.{InputError}
-use Rattle.printer_files.specs.declared.InputError.TheVariants.{Format, Refused}
+use Rattle.printer_files.specs.declared.InputError.TheVariants.{TooLong, Format, Refused}
 use Rattle.printer_files.specs.declared.WrongLine.{WrongLine as Wrong}
 
 -- the number and the place of what a text is read as: "7 | printer only: text not in the format"
 abbrev pub input_number : Result Numbers InputError → ℕ
 input_number (Ok head) = 0
-input_number (Err (Format place)) = 7
+input_number (Err TooLong) = 7
+input_number (Err (Format line)) = 7
 input_number (Err (Refused x)) = number_of x
 
 abbrev pub input_place : Result Numbers InputError → ℕ
 input_place (Ok head) = 0
-input_place (Err (Format place)) = place
+input_place (Err TooLong) = 0
+input_place (Err (Format line)) = line
 input_place (Err (Refused x)) = place_of x
 
 -- the matrix that was read has these numbers, and its coefficients stand at the front of the room
@@ -34,9 +36,17 @@ pub record MatrixHeld (p n m d : ℕ) (cells : Lines) (room : List ℕ) (head : 
 abbrev pub InputHeld : (p n m d : ℕ) (cells : Lines) (room : List ℕ) → Result Numbers InputError → Type 0
 InputHeld p n m d cells room x = IfOk x (λ head. MatrixHeld p n m d cells room head)
 
+-- a line that isn't as said is counted from 1: place 0 is only that of a text that is too long
+abbrev pub LineCounted : Result Numbers InputError → Type 0
+LineCounted (Ok head) = ⊤
+LineCounted (Err TooLong) = ⊤
+LineCounted (Err (Format line)) = 1 ≤ line
+LineCounted (Err (Refused x)) = ⊤
+
 -- the number and the place are the table's, and a matrix that was read is in the room
 pub record InputRead (table : List Rule) (p n m d : ℕ) (s room : List ℕ) (x : Result Numbers InputError) : Type 0 where
   pub told : Told table (input_number x) (input_place x)
+  pub line : LineCounted x
   pub held : InputHeld p n m d (cell_lines n m d s) room x
 
 -- of the text after the head

@@ -13,10 +13,14 @@ use matrix_refusals::{Numbers, Refusal, checks};
 use printer_format::keys;
 use printer_reading::WrongCell;
 
-// Why a text is refused: the first line that isn't as said, or 0 where the text is too long, or what is refused of its matrix.
+// Why a text is refused.
 #[derive(Clone, Copy, Debug, PartialEq, Eq)]
 pub enum InputError {
+    // It has more than 32,768 bytes.
+    TooLong,
+    // The first line that isn't as said, counted from 1.
     Format(usize),
+    // What is refused of its matrix.
     Refused(Refusal),
 }
 
@@ -26,7 +30,7 @@ impl InputError {
         ensures { result ≡ input_number (Err self) }
     {
         match self {
-            InputError::Format(_) => 7,
+            InputError::TooLong | InputError::Format(_) => 7,
             InputError::Refused(x) => x.number(),
         }
     }
@@ -36,6 +40,7 @@ impl InputError {
         ensures { result ≡ input_place (Err self) }
     {
         match self {
+            InputError::TooLong => 0,
             InputError::Format(line) => line,
             InputError::Refused(x) => x.place(),
         }
@@ -100,7 +105,7 @@ fn read_matrix(s: &[u8], head: Numbers, room: &mut [u16]) -> Result<(), WrongLin
     }
 }
 
-// All that follows the head, with the refusals in order.
+// All that follows the head, with the refusals in order. It answers the head too: so it promises what `read_file` does.
 fn read_body(s: &[u8], head: Numbers, room: &mut [u16]) -> Result<Numbers, InputError>
     requires { length room.old ≡ 4096 }
     ensures { BodyRead head s.now room.new result }
@@ -118,7 +123,7 @@ pub fn read_file(s: &[u8], room: &mut [u16]) -> Result<Numbers, InputError>
     ensures { FileRead s.now room.new result }
 {
     if 32768 < s.len() {
-        return Err(InputError::Format(0));
+        return Err(InputError::TooLong);
     }
     let (head, body) = read_head(s)?;
     read_body(body, head, room)

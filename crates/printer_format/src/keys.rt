@@ -23,7 +23,7 @@ pub const STEPS: &[u8] = b"steps=";
 
 pub const DETERMINANT: &[u8] = b"det=";
 
-// Of the first cell of the matrix that is read, and of the result.
+// Of the first cell of the matrix that is read, and of the result: arrays, by value, since `key_of_cell` puts other digits into a copy.
 pub const INPUT: [u8; 4] = *b"a11=";
 
 pub const RESULT: [u8; 4] = *b"r11=";

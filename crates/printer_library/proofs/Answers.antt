@@ -23,7 +23,6 @@ use Rattle.matrix_promises.specs.Services.{determinant}
 use Rattle.matrix_promises.proofs.Alone.{alone}
 use Rattle.matrix.specs.Reduction.{Answered}
 use Rattle.matrix.specs.declared.reduction.Reduction.{Reduction}
-use Rattle.matrix_refusals.specs.declared.Numbers.{Numbers as Head}
 use Rattle.matrix_refusals.specs.declared.Refusal.{Refusal}
 use Rattle.std.specs.Prelude.{Result, Ok, Err, MatchResult}
 use Rattle.printer_format.specs.File.{head_lines, numbers_of, head_modulus, head_rows, head_columns, head_degree, body_lines}
@@ -90,7 +89,7 @@ module _ {p n m d : ℕ} {a r det : List ℕ} {rank count : ℕ} (asked : Result
       }
 
 -- a text that is read as a matrix
-module _ (s : List ℕ) {room : List ℕ} (head : Head) (found : FileRead s room (Ok head)) where
+module _ (s : List ℕ) {room : List ℕ} (head : _) (found : FileRead s room (Ok head)) where
   -- the matrix that was read is that of the text
   same : ◌≡◌ {A = ℕ × ℕ × ℕ × ℕ × List ℕ} (head.p, head.n, head.m, head.d, take (head.n * (head.m * (head.d + 1))) room)
       (head_modulus (head_lines s), head_rows (head_lines s), head_columns (head_lines s), head_degree (head_lines s), numbers_of (body_lines (head_lines s)))

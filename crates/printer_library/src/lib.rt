@@ -33,15 +33,15 @@ fn answer_refusal(number: usize, place: usize) -> Page
 }
 
 // The answer for a matrix that is reduced to r.
-fn answer_reduced(head: Numbers, a: &[u16], r: &[u16], found: Reduction) -> Page
-    requires { ResultAsked head.p head.n head.m head.d a.now r.now found.rank found.count }
-    ensures { MatrixAnswer head.p head.n head.m head.d a.now result.items }
+fn answer_reduced(numbers: Numbers, a: &[u16], r: &[u16], found: Reduction) -> Page
+    requires { ResultAsked numbers.p numbers.n numbers.m numbers.d a.now r.now found.rank found.count }
+    ensures { MatrixAnswer numbers.p numbers.n numbers.m numbers.d a.now result.items }
 {
-    let Numbers { n, m, d, .. } = head;
+    let Numbers { n, m, d, .. } = numbers;
     let mut room = [0; DETERMINANT];
     let det = &mut room[..n * d + 1];
     // The service refuses a matrix that is not square, and nothing is printed of it then.
-    let _ = determinant::determinant(head, a, det);
+    let _ = determinant::determinant(numbers, a, det);
     let answer = Answer {
         rank: found.rank,
         // By `as`, since a usize is From no u64: both have 64 bits.
@@ -58,11 +58,11 @@ fn answer_reduced(head: Numbers, a: &[u16], r: &[u16], found: Reduction) -> Page
 }
 
 // The answer for a matrix.
-fn answer_matrix(head: Numbers, a: &[u16]) -> Page
-    requires { MatrixTaken head.p head.n head.m head.d a.now }
-    ensures { MatrixAnswer head.p head.n head.m head.d a.now result.items }
+fn answer_matrix(numbers: Numbers, a: &[u16]) -> Page
+    requires { MatrixTaken numbers.p numbers.n numbers.m numbers.d a.now }
+    ensures { MatrixAnswer numbers.p numbers.n numbers.m numbers.d a.now result.items }
 {
-    let Numbers { n, m, d, .. } = head;
+    let Numbers { n, m, d, .. } = numbers;
     let cell = n * (d + 1);
     let mut r_room = [0; MATRIX];
     let mut u_room = [0; TRANSFORM];
@@ -70,11 +70,11 @@ fn answer_matrix(head: Numbers, a: &[u16]) -> Page
     let r = &mut r_room[..n * (m * (d + 1))];
     let u = &mut u_room[..n * (n * cell)];
     let v = &mut v_room[..n * cell];
-    let Ok(found) = reduction::reduce(head, a, r, u, v) else {
+    let Ok(found) = reduction::reduce(numbers, a, r, u, v) else {
         // What the reduction would refuse was asked of the text.
         unreachable!();
     };
-    answer_reduced(head, a, r, found)
+    answer_reduced(numbers, a, r, found)
 }
 
 // The answer to the text.
@@ -84,7 +84,7 @@ fn answer(text: &[u8]) -> Page
     let mut room = [0; MATRIX];
     match printer_files::read_file(text, &mut room) {
         Err(error) => answer_refusal(error.number(), error.place()),
-        Ok(head) => answer_matrix(head, &room[..head.n * (head.m * (head.d + 1))]),
+        Ok(numbers) => answer_matrix(numbers, &room[..numbers.n * (numbers.m * (numbers.d + 1))]),
     }
 }
 

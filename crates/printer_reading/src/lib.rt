@@ -41,7 +41,8 @@ fn no_zero_in_front(w: &[u8]) -> bool
     w.len() == 1 || b'0' < w[0]
 }
 
-// What digits stand for.
+// What digits stand for. Not by std's `parse`: it is of a &str, and it takes a plus sign and zeros in front, which would have to be
+// refused all the same.
 #[tactic(auto, using(crate::proofs::Digits::valuing_turn, crate::proofs::Digits::valuing_end))]
 fn from_decimal(w: &[u8]) -> u32
     requires few { length w.now ≤ 5 }
@@ -100,7 +101,8 @@ pub fn read_field<'a>(s: &'a [u8], key: &[u8]) -> Option<(u16, &'a [u8])>
     Some((room[0], rest))
 }
 
-// The lines of an n by m matrix, up to the first that isn't as said.
+// The lines of an n by m matrix, up to the first that isn't as said. n, m and d come one by one: the crates of the text know no call
+// (crates.txt).
 pub fn read_cells<'a>(
     s: &'a [u8],
     n: usize,

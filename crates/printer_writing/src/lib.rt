@@ -19,7 +19,7 @@ pub const OUTPUT: usize = 27928;
 pub type Page = ArrayVec<u8, OUTPUT>;
 
 // What is printed where nothing is refused: the counts, and R with d+1 numbers for each cell of an n by m matrix. The determinant is
-// not looked at where n and m differ.
+// not looked at where n and m differ. n, m and d stand one by one: the crates of the text know no call (crates.txt).
 #[derive(Clone, Copy)]
 pub struct Answer<'a> {
     pub rank: usize,
@@ -31,64 +31,65 @@ pub struct Answer<'a> {
     pub det: &'a [u16],
 }
 
-fn put_bytes(page: &mut Page, w: &[u8])
-    requires { Fits page.old w.now }
-    ensures { Extends page.old w.now page.new }
+fn put_bytes(page: &mut Page, bytes: &[u8])
+    requires { Fits page.old bytes.now }
+    ensures { Extends page.old bytes.now page.new }
 {
     // What fits is not turned down.
-    let _ = page.try_extend_from_slice(w);
+    let _ = page.try_extend_from_slice(bytes);
 }
 
-// A number in decimal: the last digit comes after those of a tenth of it.
-fn put_number(page: &mut Page, v: usize)
-    requires { Fits page.old (decimal v) }
-    ensures { Extends page.old (decimal v) page.new }
+// A number in decimal: the last digit comes after those of a tenth of it. By hand: its text is defined by `decimal` of printer_format,
+// and a proof that itoa's or std's text is the same would be longer than these lines.
+fn put_number(page: &mut Page, value: usize)
+    requires { Fits page.old (decimal value) }
+    ensures { Extends page.old (decimal value) page.new }
 {
-    if 10 <= v {
-        put_number(page, v / 10);
+    if 10 <= value {
+        put_number(page, value / 10);
     }
-    page.push(keys::numeral(v % 10));
+    page.push(keys::numeral(value % 10));
 }
 
 // A number and its mark.
-fn put_marked(page: &mut Page, v: usize, left: usize)
-    requires { Fits page.old (decimal v ++ mark left ∷ []) }
-    ensures { Extends page.old (decimal v ++ mark left ∷ []) page.new }
+fn put_marked(page: &mut Page, value: usize, left: usize)
+    requires { Fits page.old (decimal value ++ mark left ∷ []) }
+    ensures { Extends page.old (decimal value ++ mark left ∷ []) page.new }
 {
-    put_number(page, v);
+    put_number(page, value);
     put_bytes(page, keys::mark_of(left));
 }
 
 // Numbers, each with its mark.
-fn put_row(page: &mut Page, l: &[u16])
-    requires { Fits page.old (row l.now) }
-    ensures { Extends page.old (row l.now) page.new }
+fn put_row(page: &mut Page, numbers: &[u16])
+    requires { Fits page.old (row numbers.now) }
+    ensures { Extends page.old (row numbers.now) page.new }
 {
-    for (k, v) in l.iter().enumerate() {
-        put_marked(page, usize::from(*v), l.len() - k - 1);
+    for (k, value) in numbers.iter().enumerate() {
+        put_marked(page, usize::from(*value), numbers.len() - k - 1);
     }
 }
 
 // A line: its key, and then its numbers.
-fn put_line(page: &mut Page, key: &[u8], l: &[u16])
-    requires { Fits page.old (line key.now l.now) }
-    ensures { Extends page.old (line key.now l.now) page.new }
+fn put_line(page: &mut Page, key: &[u8], numbers: &[u16])
+    requires { Fits page.old (line key.now numbers.now) }
+    ensures { Extends page.old (line key.now numbers.now) page.new }
 {
     put_bytes(page, key);
-    put_row(page, l);
+    put_row(page, numbers);
 }
 
 // A line with one number.
 #[tactic(auto, unfolding(printer_format::specs::Line::row))]
-fn put_field(page: &mut Page, key: &[u8], v: usize)
-    requires { Fits page.old (line key.now (v ∷ [])) }
-    ensures { Extends page.old (line key.now (v ∷ [])) page.new }
+fn put_field(page: &mut Page, key: &[u8], value: usize)
+    requires { Fits page.old (line key.now (value ∷ [])) }
+    ensures { Extends page.old (line key.now (value ∷ [])) page.new }
 {
     put_bytes(page, key);
-    put_marked(page, v, 0);
+    put_marked(page, value, 0);
 }
 
-// The lines of the result, one for each cell.
+// The lines of the result, one for each cell. n, m and d come one by one, as in `Answer`.
 fn put_result(page: &mut Page, n: usize, m: usize, d: usize, r: &[u16])
     requires { ResultAsked page.old n m d r.now }
     ensures { Extends page.old (result_text n m d r.now) page.new }

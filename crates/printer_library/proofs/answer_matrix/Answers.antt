@@ -9,7 +9,7 @@ use Rattle.printer_library.proofs.answer_matrix.Goals.{After-reduce}
 
 -- the reduction is not refused
 outcome : (c : After-reduce) → MatchResult c.reduce.result
-    (λ s. ResultAsked c.args.head.p c.args.head.n c.args.head.m c.args.head.d c.args.a.now c.reduce.new.r s.rank s.count) (λ _. ⊥)
+    (λ s. ResultAsked c.args.numbers.p c.args.numbers.n c.args.numbers.m c.args.numbers.d c.args.a.now c.reduce.new.r s.rank s.count) (λ _. ⊥)
 outcome c =
     let bounds = in_bounds c.requires.numbers in
     reduced-to c.requires (length-take-le _ _ (matrix-few bounds)) (length-take-le _ _ (transform-few bounds))

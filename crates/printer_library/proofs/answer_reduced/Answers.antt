@@ -6,15 +6,15 @@ use Rattle.printer_library.proofs.answer_reduced.Goals as goal
 use Rattle.printer_library.proofs.answer_reduced.Goals.{After-determinant}
 
 -- the places of the determinant
-places : (c : After-determinant) → length c.determinant.new.r ≡ c.args.head.n * c.args.head.d + 1
+places : (c : After-determinant) → length c.determinant.new.r ≡ c.args.numbers.n * c.args.numbers.d + 1
 places c = c.determinant.auto.r ∙ length-take-le _ _ (determinant-few c.requires.matrix.numbers)
 
-found : (c : After-determinant) → c.args.head.n ≡ c.args.head.m
-    → IsDeterminant c.args.head.p c.args.head.n c.args.head.d c.args.a.now c.determinant.new.r
+found : (c : After-determinant) → c.args.numbers.n ≡ c.args.numbers.m
+    → IsDeterminant c.args.numbers.p c.args.numbers.n c.args.numbers.d c.args.a.now c.determinant.new.r
 found c = determined c.requires.matrix (length-take-le _ _ (determinant-few c.requires.matrix.numbers)) c.determinant.ensures
 
 answerable : (c : After-determinant)
-    → Answerable c.args.found.rank c.args.found.count c.args.head.n c.args.head.m c.args.head.d c.args.r.now c.determinant.new.r
+    → Answerable c.args.found.rank c.args.found.count c.args.numbers.n c.args.numbers.m c.args.numbers.d c.args.r.now c.determinant.new.r
 answerable c = result-answerable c.requires (places c) (found c) (omega arith) (omega arith)
 
 pub put_answer-requires : goal.put_answer-requires

@@ -5,4 +5,4 @@ use Rattle.printer_writing.proofs.Texts.{Left}
 use Rattle.printer_writing.proofs.put_row.Given as goal
 
 abbrev pub invariant-loop-k : goal.invariant-loop-k
-invariant-loop-k l = Left l.page.items (row (drop l.k l.l)) (l.initial.page.items ++ row l.l)
+invariant-loop-k l = Left l.page.items (row (drop l.k l.numbers)) (l.initial.page.items ++ row l.numbers)
