@@ -1,4 +1,5 @@
 pub mod Asked
+pub mod Call
 pub mod Reduction
 pub mod SingleStep
 pub mod PopovForm

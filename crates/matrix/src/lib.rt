@@ -1,5 +1,4 @@
 // The services: reduction, single step, Popov form and determinant of matrices of polynomials, on buffers that the caller lends.
-// Each takes p, n, m, d and its buffers one by one, as its name in C does.
 #![tactic(auto)]
 
 pub mod determinant;

@@ -1,10 +1,12 @@
 // The whole reduction.
 ghost use Rattle.matrix_promises.specs.Reduced.{IsReduction};
+ghost use Rattle.matrix.specs.Call.{whole_call};
 ghost use Rattle.matrix.specs.Asked.{WorkAsked};
 ghost use Rattle.matrix.specs.Reduction.{Answered};
 
+use matrix_buffers::Shape;
 use matrix_reduction::{Reached, nonzero_rows};
-use matrix_refusals::{Refusal, checks};
+use matrix_refusals::{Numbers, Refusal, checks};
 use matrix_rows::write_identity;
 use poly::{Modulus, arithmetic};
 
@@ -18,24 +20,21 @@ pub struct Reduction {
 
 // "U·A = R, V·R = A": the weak Popov form of the matrix in a, or a refusal that leaves every buffer as it was.
 pub fn reduce(
-    p: u32,
-    n: usize,
-    m: usize,
-    d: usize,
+    numbers: Numbers,
     a: &[u16],
     r: &mut [u16],
     u: &mut [u16],
     v: &mut [u16],
 ) -> Result<Reduction, Refusal>
-    ensures { Answered (record { p = p; n = n; m = m; d = d; a = a.now; r = r.old; u = u.old; v = v.old }) r.new u.new v.new result }
+    ensures { Answered (whole_call numbers a.now r.old u.old v.old) r.new u.new v.new result }
 {
-    checks::check_reduction(p, n, m, d, a, r.len(), u.len(), v.len())?;
-    let w = d + 1;
-    let x = work(a, r, u, v, n, m, w, Modulus::of(p));
+    checks::check_reduction(numbers, a, r.len(), u.len(), v.len())?;
+    let shape = numbers.shape();
+    let x = work(a, r, u, v, shape, Modulus::of(numbers.p));
     Ok(Reduction {
         rank: x.rank,
         count: x.count,
-        rows: nonzero_rows::list(r, n, m, w),
+        rows: nonzero_rows::list(r, shape),
     })
 }
 
@@ -45,16 +44,15 @@ pub(crate) fn work(
     r: &mut [u16],
     u: &mut [u16],
     v: &mut [u16],
-    n: usize,
-    m: usize,
-    w: usize,
+    shape: Shape,
     md: Modulus,
 ) -> Reached
-    requires { WorkAsked md.p md.reciprocal n m w a.now r.old u.old v.old }
-    ensures { IsReduction md.p n m w a.now r.new u.new v.new result.rank result.count }
+    requires { WorkAsked md.p shape.n shape.m shape.w a.now r.old u.old v.old }
+    ensures { IsReduction md.p shape.n shape.m shape.w a.now r.new u.new v.new result.rank result.count }
 {
     arithmetic::copy(a, r);
+    let Shape { n, w, .. } = shape;
     write_identity(u, n, n * w);
     write_identity(v, n, w);
-    matrix_reduction::run(r, u, v, n, m, w, md)
+    matrix_reduction::run(r, u, v, shape, md)
 }

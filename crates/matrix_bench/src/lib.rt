@@ -5,7 +5,7 @@ ghost use Rattle.std.specs.Prelude.{◌≡◌};
 ghost use Rattle.matrix_bench.specs.Alone.{reply_of, AloneReplied};
 
 use matrix_reduction::Reached;
-use matrix_refusals::{Refusal, checks};
+use matrix_refusals::{Numbers, Refusal, checks};
 use poly::{Modulus, arithmetic};
 
 #[repr(C)]
@@ -39,12 +39,13 @@ impl From<Result<Reached, Refusal>> for AloneReply {
 }
 
 // R alone: refused as the single step is, or the weak Popov form of the matrix in a, in r.
-fn alone(p: u32, n: usize, m: usize, d: usize, a: &[u16], r: &mut [u16]) -> Result<Reached, Refusal>
-    ensures { AloneReplied (record { p = p; n = n; m = m; d = d; a = a.now; r = r.old }) r.new (reply_of result) }
+fn alone(numbers: Numbers, a: &[u16], r: &mut [u16]) -> Result<Reached, Refusal>
+    ensures { AloneReplied (record { p = numbers.p; n = numbers.n; m = numbers.m; d = numbers.d; a = a.now; r = r.old }) r.new (reply_of result) }
 {
-    checks::check_step(p, n, m, d, a, r.len())?;
+    checks::check_step(numbers, a, r.len())?;
     arithmetic::copy(a, r);
-    Ok(matrix_reduction::run_alone(r, n, m, d + 1, Modulus::of(p)))
+    let shape = numbers.shape();
+    Ok(matrix_reduction::run_alone(r, shape, Modulus::of(numbers.p)))
 }
 
 // The same for C: the reply has numbers only, and parameters stand one by one.
@@ -59,5 +60,5 @@ pub extern "C" fn matrix_bench_alone(
 ) -> AloneReply
     ensures { AloneReplied (record { p = p; n = n; m = m; d = d; a = a.now; r = r.old }) r.new result }
 {
-    AloneReply::from(alone(p, n, m, d, a, r))
+    AloneReply::from(alone(Numbers { p, n, m, d }, a, r))
 }

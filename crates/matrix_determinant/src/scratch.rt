@@ -10,6 +10,7 @@ pub(crate) const COLUMNS: usize = 3584;
 // Eight cells of as many places as a determinant has, 505: its last column, parted from the others.
 pub(crate) const CELLS: usize = 4040;
 
+// A function, since its promise speaks of each place.
 pub(crate) fn zeros<const N: usize>() -> [u16; N]
     ensures { Zeros N result }
 {

@@ -11,7 +11,7 @@ use matrix_pivots::pivot;
 use poly::Modulus;
 
 // One stage: its steps, and then a row is taken out, and the columns of the next stage are put in front of r. What the pivot degrees
-// of the rows are together is the budget of that one, and is returned.
+// of the rows are together is the budget of that one, and is returned. The buffers go one by one, as R, U and V do in `matrix_reduction::run`.
 fn turn(
     r: &mut [u16],
     column: &mut [u16],

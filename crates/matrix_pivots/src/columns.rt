@@ -1,6 +1,6 @@
 // The pivot columns in use form a set of at most eight: a mask of eight bits, in one word for speed. A column already in
 // the set is what calls for a step.
-ghost use Rattle.std.specs.Prelude.{◌≡◌, true, ◌↔◌, ◌≤◌};
+ghost use Rattle.std.specs.Prelude.{◌≡◌, ◌↔◌, ◌≤◌, IsTrue};
 ghost use Rattle.matrix_pivots.specs.Columns.{In, Entered, RepeatsColumn};
 ghost use Rattle.matrix_pivots.specs.NextPair.{NextAsked};
 
@@ -15,7 +15,7 @@ impl Columns {
 
     pub fn has(self, x: PivotIndex) -> bool
         requires { x.0 ≤ 8 }
-        ensures { (result ≡ true) ↔ In self.0 x.0 }
+        ensures { IsTrue result ↔ In self.0 x.0 }
     {
         if x.is_zero_row() {
             return false;
@@ -37,7 +37,7 @@ impl Columns {
 // Whether a second row comes upon a column in use: whether a step is called for.
 pub fn repeats_column(pivots: &[Pivot]) -> bool
     requires { NextAsked pivots.now }
-    ensures { (result ≡ true) ↔ RepeatsColumn pivots.now }
+    ensures { IsTrue result ↔ RepeatsColumn pivots.now }
 {
     let mut used = Columns::NONE;
     for pivot in pivots {

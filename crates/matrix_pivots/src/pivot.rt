@@ -1,6 +1,6 @@
 // The pivot of a row: the rightmost entry of greatest degree. A column number is never compared with a degree, so that
 // each has a type of its own.
-ghost use Rattle.std.specs.Prelude.{SomeIff, ◌≡◌, true, ◌↔◌, ◌+◌, ◌*◌, ◌-◌, ◌<◌, ◌≤◌, get_or, length};
+ghost use Rattle.std.specs.Prelude.{◌^◌, SomeIff, ◌≡◌, ◌↔◌, ◌+◌, ◌*◌, ◌-◌, ◌<◌, ◌≤◌, get_or, length, IsTrue};
 ghost use Rattle.theory_lists.specs.Last.{last_nonzero};
 ghost use Rattle.matrix_pivots.specs.Pivot.{value_of, row_of, values_of, IsPivotOf, Line, RowAsked, RowOfAsked, MatrixAsked};
 ghost use Rattle.matrix_pivots.specs.Pivot.{AllPivots, least_degree, nonzero_rows, degrees_together};
@@ -25,7 +25,7 @@ impl PivotIndex {
     pub const ZERO_ROW: PivotIndex = PivotIndex(0);
 
     pub fn is_zero_row(self) -> bool
-        ensures { (result ≡ true) ↔ (self.0 ≡ 0) }
+        ensures { IsTrue result ↔ (self.0 ≡ 0) }
     {
         self == PivotIndex::ZERO_ROW
     }
@@ -76,7 +76,7 @@ impl PivotDegree {
 
     // The degree of x^e times the pivot.
     pub fn raised(self, e: usize) -> PivotDegree
-        requires { self.0 + e < 18446744073709551616 }
+        requires { self.0 + e < 2 ^ 64 }
         ensures { result.0 ≡ self.0 + e }
     {
         PivotDegree(self.0 + e)
@@ -140,14 +140,15 @@ impl Pivot {
 
     // "D·m + I", 0 for a zero row.
     pub fn value(self, m: usize) -> usize
-        requires { (self.degree.0 - 1) * m + self.index.0 < 18446744073709551616 }
+        requires { (self.degree.0 - 1) * m + self.index.0 < 2 ^ 64 }
         ensures { result ≡ (self.degree.0 - 1) * m + self.index.0 }
     {
         self.degree.or_zero() * m + self.index.0
     }
 }
 
-// The pivots of all rows of a matrix. The places that no row has are those of zero rows.
+// The pivots of all rows of a matrix. The places that no row has are those of zero rows: the promise (`AllPivots`) speaks of all eight, so
+// that it is an array. What reads the pivots takes the n in front as a slice.
 pub fn all(r: &[u16], shape: Shape) -> [Pivot; 8]
     requires { MatrixAsked shape.n shape.m shape.w r.now }
     ensures { AllPivots shape.n shape.m (values_of shape.m shape.w r.now) result }
@@ -180,7 +181,7 @@ pub fn rank(pivots: &[Pivot]) -> usize
 
 // The pivot degrees of the rows together, that of a zero row counting as 0.
 pub fn degree_sum(pivots: &[Pivot]) -> usize
-    requires { degrees_together pivots.now < 18446744073709551616 }
+    requires { degrees_together pivots.now < 2 ^ 64 }
     ensures { result ≡ degrees_together pivots.now }
 {
     pivots.iter().map(|pivot| pivot.degree.or_zero()).sum()

@@ -24,17 +24,11 @@ fn divide_row(
     if pivot.index.is_zero_row() {
         return;
     }
-    let n = shape.n;
     let c = multiple::coefficient(r, shape, i, pivot);
     let f = c.inverse(md);
-    let of_u = Shape {
-        n,
-        m: n,
-        w: n * shape.w,
-    };
     scale_row(r, shape, i, f, md);
-    scale_row(u, of_u, i, f, md);
-    scale_column(v, n, shape.w, i, c, md);
+    scale_row(u, shape.of_u(), i, f, md);
+    scale_column(v, shape, i, c, md);
 }
 
 // Monic pivots in all rows that have one. Each keeps its place.

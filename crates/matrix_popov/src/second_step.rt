@@ -28,7 +28,8 @@ fn excess(r: &[u16], shape: Shape, k: usize, pivot: Pivot) -> Option<usize>
     pivot.degree.excess(places)
 }
 
-// The lowest row before k that has the greatest excess, if any has one.
+// The lowest row before k that has the greatest excess, if any has one. Row and excess are two variables: in the order of Options none is
+// least, so that a turn is one test.
 fn highest(r: &[u16], shape: Shape, pivots: &[Pivot], k: usize) -> Option<Found>
     requires { HighestAsked shape.m shape.w k r.now pivots.now }
     ensures { IsHighest k (excess_at shape.m shape.w r.now pivots.now k) result }

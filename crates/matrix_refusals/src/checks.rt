@@ -1,11 +1,11 @@
 // Which calls are refused, and why: the checks in the paper's order. Nothing is written here, so that every buffer of a
-// refused call holds what it held. Parameters come one by one, as programs in C pass them to the services.
-ghost use Rattle.std.specs.Prelude.{◌≡◌, true, ◌↔◌, ◌+◌, ◌*◌, ◌≤◌, ◌<◌, [], ◌∷◌, length, MatchOption};
+// refused call holds what it held.
+ghost use Rattle.std.specs.Prelude.{◌≡◌, ◌↔◌, ◌+◌, ◌*◌, ◌≤◌, ◌<◌, [], ◌∷◌, length, MatchOption, IsTrue};
 ghost use Rattle.matrix_refusals.specs.Number.{Verdict};
 ghost use Rattle.matrix_promises.specs.Refused.{FirstHigh, reduction_sizes, step_sizes};
 ghost use Rattle.matrix_promises.specs.Refused.{number_rules, length_rule, coefficient_rule, matrix_table, determinant_table};
 
-use crate::Refusal;
+use crate::{Numbers, Refusal};
 use poly::Modulus;
 
 // The index of the first coefficient that is p or more.
@@ -16,9 +16,10 @@ fn first_high(a: &[u16], p: u32) -> Option<usize>
 }
 
 // Refusals 1 to 3.
-pub fn check_numbers(p: u32, n: usize, m: usize, d: usize) -> Result<(), Refusal>
-    ensures { Verdict (number_rules p n m d []) result }
+pub fn check_numbers(numbers: Numbers) -> Result<(), Refusal>
+    ensures { Verdict (number_rules numbers.p numbers.n numbers.m numbers.d []) result }
 {
+    let Numbers { p, n, m, d } = numbers;
     if !Modulus::accepts(p) {
         return Err(Refusal::Modulus);
     }
@@ -33,7 +34,7 @@ pub fn check_numbers(p: u32, n: usize, m: usize, d: usize) -> Result<(), Refusal
 
 // Whether a number of rows or columns is one of 1 to 8.
 fn one_to_eight(n: usize) -> bool
-    ensures { (result ≡ true) ↔ ((1 ≤ n) × (n ≤ 8)) }
+    ensures { IsTrue result ↔ ((1 ≤ n) × (n ≤ 8)) }
 {
     (1..=8).contains(&n)
 }
@@ -52,10 +53,11 @@ fn check_lengths(a: usize, places: usize, r: usize, res: usize) -> Result<(), Re
 }
 
 // Refusals 1 to 3, and 5 for these two buffers, where the result is a matrix.
-fn check_matrix(p: u32, n: usize, m: usize, d: usize, a: usize, r: usize) -> Result<(), Refusal>
-    ensures { Verdict (number_rules p n m d (length_rule (a ∷ r ∷ []) (step_sizes n m d) ∷ [])) result }
+fn check_matrix(numbers: Numbers, a: usize, r: usize) -> Result<(), Refusal>
+    ensures { Verdict (number_rules numbers.p numbers.n numbers.m numbers.d (length_rule (a ∷ r ∷ []) (step_sizes numbers.n numbers.m numbers.d) ∷ [])) result }
 {
-    check_numbers(p, n, m, d)?;
+    check_numbers(numbers)?;
+    let Numbers { n, m, d, .. } = numbers;
     let places = n * (m * (d + 1));
     check_lengths(a, places, r, places)
 }
@@ -71,27 +73,25 @@ pub fn check_coefficients(a: &[u16], p: u32) -> Result<(), Refusal>
 }
 
 // The checks of the single step, whose result has r places.
-pub fn check_step(p: u32, n: usize, m: usize, d: usize, a: &[u16], r: usize) -> Result<(), Refusal>
-    ensures { Verdict (matrix_table p n m d (length a.now ∷ r ∷ []) (step_sizes n m d) a.now) result }
+pub fn check_step(numbers: Numbers, a: &[u16], r: usize) -> Result<(), Refusal>
+    ensures { Verdict (matrix_table numbers.p numbers.n numbers.m numbers.d (length a.now ∷ r ∷ []) (step_sizes numbers.n numbers.m numbers.d) a.now) result }
 {
-    check_matrix(p, n, m, d, a.len(), r)?;
-    check_coefficients(a, p)
+    check_matrix(numbers, a.len(), r)?;
+    check_coefficients(a, numbers.p)
 }
 
 // The checks of the reduction, whose result, U and V have r, u and v places.
 pub fn check_reduction(
-    p: u32,
-    n: usize,
-    m: usize,
-    d: usize,
+    numbers: Numbers,
     a: &[u16],
     r: usize,
     u: usize,
     v: usize,
 ) -> Result<(), Refusal>
-    ensures { Verdict (matrix_table p n m d (length a.now ∷ r ∷ u ∷ v ∷ []) (reduction_sizes n m d) a.now) result }
+    ensures { Verdict (matrix_table numbers.p numbers.n numbers.m numbers.d (length a.now ∷ r ∷ u ∷ v ∷ []) (reduction_sizes numbers.n numbers.m numbers.d) a.now) result }
 {
-    check_matrix(p, n, m, d, a.len(), r)?;
+    check_matrix(numbers, a.len(), r)?;
+    let Numbers { n, d, .. } = numbers;
     let cell = n * (d + 1);
     if u != n * (n * cell) {
         return Err(Refusal::Length(3));
@@ -99,21 +99,15 @@ pub fn check_reduction(
     if v != n * cell {
         return Err(Refusal::Length(4));
     }
-    check_coefficients(a, p)
+    check_coefficients(a, numbers.p)
 }
 
 // The checks of the determinant, whose result has r places.
-pub fn check_determinant(
-    p: u32,
-    n: usize,
-    m: usize,
-    d: usize,
-    a: &[u16],
-    r: usize,
-) -> Result<(), Refusal>
-    ensures { Verdict (determinant_table p n m d (length a.now ∷ r ∷ []) a.now) result }
+pub fn check_determinant(numbers: Numbers, a: &[u16], r: usize) -> Result<(), Refusal>
+    ensures { Verdict (determinant_table numbers.p numbers.n numbers.m numbers.d (length a.now ∷ r ∷ []) a.now) result }
 {
-    check_numbers(p, n, m, d)?;
+    check_numbers(numbers)?;
+    let Numbers { p, n, m, d } = numbers;
     if n != m {
         return Err(Refusal::Square);
     }

@@ -1,5 +1,5 @@
 // The cells of a row or of a column: `count` cells of w places each in one buffer, the first at `first`, at distances of `stride`.
-ghost use Rattle.std.specs.Prelude.{◌≡◌, ◌+◌, ◌*◌, ◌<◌};
+ghost use Rattle.std.specs.Prelude.{◌^◌, ◌≡◌, ◌+◌, ◌*◌, ◌<◌};
 ghost use Rattle.matrix_rows.specs.Cells.{row, column};
 
 use matrix_buffers::Shape;
@@ -15,7 +15,7 @@ pub(crate) struct Cells {
 impl Cells {
     // Those of row i stand one behind the other.
     pub(crate) fn of_row(shape: Shape, i: usize) -> Cells
-        requires { i * (shape.m * shape.w) + shape.m * shape.w < 18446744073709551616 }
+        requires { i * (shape.m * shape.w) + shape.m * shape.w < 2 ^ 64 }
         ensures { result ≡ row shape.m shape.w i }
     {
         Cells {
@@ -26,22 +26,22 @@ impl Cells {
         }
     }
 
-    // Those of column x of an n by n matrix stand one in each row.
-    pub(crate) fn of_column(n: usize, w: usize, x: usize) -> Cells
-        requires { (x < n) × (n * w < 18446744073709551616) }
-        ensures { result ≡ column n w x }
+    // Those of column x of V, which is n by n, stand one in each row.
+    pub(crate) fn of_column(shape: Shape, x: usize) -> Cells
+        requires { (x < shape.n) × (shape.n * shape.w < 2 ^ 64) }
+        ensures { result ≡ column shape.n shape.w x }
     {
         Cells {
-            first: x * w,
-            stride: n * w,
-            count: n,
-            w,
+            first: x * shape.w,
+            stride: shape.n * shape.w,
+            count: shape.n,
+            w: shape.w,
         }
     }
 
     // Where cell i starts.
     pub(crate) fn start(self, i: usize) -> usize
-        requires { self.first + i * self.stride < 18446744073709551616 }
+        requires { self.first + i * self.stride < 2 ^ 64 }
         ensures { result ≡ self.first + i * self.stride }
     {
         self.first + i * self.stride

@@ -32,9 +32,10 @@ pub fn exchange_rows(buf: &mut [u16], shape: Shape, i: usize, j: usize)
     exchange_cells(buf, Cells::of_row(shape, i), Cells::of_row(shape, j));
 }
 
-pub fn exchange_columns(v: &mut [u16], n: usize, w: usize, x: usize, y: usize)
-    requires { TwoColumns n w x y v.old }
-    ensures { ColumnsExchanged n w x y v.old v.new }
+// Of V beside a matrix of this shape.
+pub fn exchange_columns(v: &mut [u16], shape: Shape, x: usize, y: usize)
+    requires { TwoColumns shape.n shape.w x y v.old }
+    ensures { ColumnsExchanged shape.n shape.w x y v.old v.new }
 {
-    exchange_cells(v, Cells::of_column(n, w, x), Cells::of_column(n, w, y));
+    exchange_cells(v, Cells::of_column(shape, x), Cells::of_column(shape, y));
 }

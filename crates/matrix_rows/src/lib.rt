@@ -1,4 +1,5 @@
 // Row and column operations on matrices of polynomials that stand in buffers, straight in the buffer: no room is lent, and none made.
+// Rows and columns have a function each, for each has its own promise (`RowAdded`, `ColumnAdded`); what they do is one loop over `Cells`.
 #![tactic(auto)]
 
 ghost use Rattle.matrix_buffers.specs.Added.{CellsAdded, CellAdded, RowAdded, ColumnAdded};
@@ -52,7 +53,7 @@ fn add_cells(buf: &mut [u16], to: Cells, from: Cells, top: usize, c: Residue, e:
     }
 }
 
-// Row l takes c·x^e times row k.
+// Row l takes c·x^e times row k. c and e go one by one: R and U take -c and V takes c, so that no one value of the callers is both.
 pub fn add_row(
     buf: &mut [u16],
     shape: Shape,
@@ -71,11 +72,10 @@ pub fn add_row(
     add_cells(buf, to, from, top, c, e, md);
 }
 
-// Column x takes c·x^e times column y.
+// Column x takes c·x^e times column y, of V beside a matrix of this shape.
 pub fn add_column(
     v: &mut [u16],
-    n: usize,
-    w: usize,
+    shape: Shape,
     x: usize,
     y: usize,
     top: usize,
@@ -83,15 +83,15 @@ pub fn add_column(
     e: usize,
     md: Modulus,
 )
-    requires { ColumnsInBuffer md.p c.0 e n w top x y v.old }
-    ensures { ColumnAdded md.p n w c.0 e x y v.old v.new }
+    requires { ColumnsInBuffer md.p c.0 e shape.n shape.w top x y v.old }
+    ensures { ColumnAdded md.p shape.n shape.w c.0 e x y v.old v.new }
 {
-    let to = Cells::of_column(n, w, x);
-    let from = Cells::of_column(n, w, y);
+    let to = Cells::of_column(shape, x);
+    let from = Cells::of_column(shape, y);
     add_cells(v, to, from, top, c, e, md);
 }
 
-// The identity: zeros, and then a one in each row.
+// The identity, which is square, so that n and w alone tell its shape: zeros, and then a one in each row.
 pub fn write_identity(u: &mut [u16], n: usize, w: usize)
     requires { Square n w u.old }
     ensures { Diagonal n w u.new }

@@ -34,9 +34,10 @@ pub fn scale_row(buf: &mut [u16], shape: Shape, i: usize, c: Residue, md: Modulu
     scale_cells(buf, Cells::of_row(shape, i), c, md);
 }
 
-pub fn scale_column(v: &mut [u16], n: usize, w: usize, x: usize, c: Residue, md: Modulus)
-    requires { OneColumn n w x v.old }
-    ensures { ColumnScaled md.p n w c.0 x v.old v.new }
+// Of V beside a matrix of this shape.
+pub fn scale_column(v: &mut [u16], shape: Shape, x: usize, c: Residue, md: Modulus)
+    requires { OneColumn shape.n shape.w x v.old }
+    ensures { ColumnScaled md.p shape.n shape.w c.0 x v.old v.new }
 {
-    scale_cells(v, Cells::of_column(n, w, x), c, md);
+    scale_cells(v, Cells::of_column(shape, x), c, md);
 }

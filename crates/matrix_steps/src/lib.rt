@@ -78,12 +78,7 @@ pub fn follow(
     ensures { Followed md.p shape.n shape.w pair.l pair.k x.exponent x.factor.0 x.negated.0 u.old v.old u.new v.new }
 {
     let Pair { l, k } = pair;
-    let n = shape.n;
-    let of_u = Shape {
-        n,
-        m: n,
-        w: n * shape.w,
-    };
+    let of_u = shape.of_u();
     add_row(u, of_u, l, k, top.u, x.negated, x.exponent, md);
-    add_column(v, n, shape.w, k, l, top.v, x.factor, x.exponent, md);
+    add_column(v, shape, k, l, top.v, x.factor, x.exponent, md);
 }

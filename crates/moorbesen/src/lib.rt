@@ -8,7 +8,7 @@ ghost use Rattle.moorbesen.specs.Reply.{reply_of, step_reply_of, popov_reply_of,
 use matrix::popov_form::PopovCounts;
 use matrix::reduction::Reduction;
 use matrix::{determinant, popov_form, reduction, single_step};
-use matrix_refusals::Refusal;
+use matrix_refusals::{Numbers, Refusal};
 
 // In `rows`, bit i - 1 stands for row i.
 #[repr(C)]
@@ -57,7 +57,7 @@ pub extern "C" fn moorbesen_reduce(
 ) -> Reply
     ensures { Replied (record { p = p; n = n; m = m; d = d; a = a.now; r = r.old; u = u.old; v = v.old }) r.new u.new v.new result }
 {
-    Reply::from(reduction::reduce(p, n, m, d, a, r, u, v))
+    Reply::from(reduction::reduce(Numbers { p, n, m, d }, a, r, u, v))
 }
 
 // A single step has no rank and no list of rows: both are 0.
@@ -84,7 +84,7 @@ pub extern "C" fn moorbesen_step(
 ) -> Reply
     ensures { StepReplied (record { p = p; n = n; m = m; d = d; a = a.now; r = r.old }) r.new result }
 {
-    Reply::from(single_step::step(p, n, m, d, a, r))
+    Reply::from(single_step::step(Numbers { p, n, m, d }, a, r))
 }
 
 // The two counts are those of the first and of the second kind.
@@ -134,7 +134,7 @@ pub extern "C" fn moorbesen_popov(
 ) -> PopovReply
     ensures { PopovReplied (record { p = p; n = n; m = m; d = d; a = a.now; r = r.old; u = u.old; v = v.old }) r.new u.new v.new result }
 {
-    PopovReply::from(popov_form::form(p, n, m, d, a, r, u, v))
+    PopovReply::from(popov_form::form(Numbers { p, n, m, d }, a, r, u, v))
 }
 
 #[repr(C)]
@@ -172,5 +172,5 @@ pub extern "C" fn moorbesen_determinant(
 ) -> DeterminantReply
     ensures { DeterminantReplied (record { p = p; n = n; m = m; d = d; a = a.now; r = r.old }) r.new result }
 {
-    DeterminantReply::from(determinant::determinant(p, n, m, d, a, r))
+    DeterminantReply::from(determinant::determinant(Numbers { p, n, m, d }, a, r))
 }

@@ -34,9 +34,7 @@ pub fn add_multiple(a: &mut [u16], b: &[u16], c: Residue, e: usize, md: Modulus)
     if n == 0 {
         return;
     }
-    let start = e;
-    let end = start + n;
-    add_scaled(&mut a[start..end], &b[..n], c, md);
+    add_scaled(&mut a[e..e + n], &b[..n], c, md);
 }
 
 // The sum of a_i·b_(k-i), over the places that both have.
@@ -48,6 +46,7 @@ fn sum_at(a: &[u16], b: &[u16], k: usize) -> u64
     let start = n.saturating_sub(b.len());
     let end = n - n.saturating_sub(a.len());
     let mut sum: u64 = 0;
+    // By the index, which both share: over a zip with b reversed, `sum` asks for a bound of the sum after every term.
     for i in start..end {
         sum += whole_product(a[i], b[k - i]);
     }

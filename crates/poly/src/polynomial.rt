@@ -1,17 +1,17 @@
 // Polynomials in slices, constant term first, all places present: what is read off them.
-ghost use Rattle.std.specs.Prelude.{◌≡◌, true, ◌↔◌, ℕ, ◌<◌, ◌≤◌, length, get_or};
+ghost use Rattle.std.specs.Prelude.{◌≡◌, ◌↔◌, ℕ, ◌<◌, ◌≤◌, length, get_or, IsTrue};
 ghost use Rattle.poly.specs.Polynomial.{degree_of, used_places, leading_of, SamePolynomial};
 
 use crate::residues::Residue;
 use std::fmt;
 
-// The degree of a polynomial, -1 for zero.
+// The degree of a polynomial, -1 for zero and no Option: `Degree::of` promises that number (`degree_of`).
 #[derive(Clone, Copy, Debug, PartialEq, Eq)]
 pub struct Degree(pub i64);
 
-// Whether all places are zero. No early exit, so that eight places become one comparison of vectors.
+// Whether all places are zero. A fold, which has no early exit as `all` has, so that eight places become one comparison of vectors.
 fn all_zero(a: &[u16]) -> bool
-    ensures { (result ≡ true) ↔ ((i : ℕ) → i < length a.now → get_or a.now i 0 ≡ 0) }
+    ensures { IsTrue result ↔ ((i : ℕ) → i < length a.now → get_or a.now i 0 ≡ 0) }
 {
     a.iter().fold(0, |bits, x| bits | *x) == 0
 }
@@ -21,6 +21,7 @@ fn skip(a: &[u16]) -> usize
     ensures { (result ≤ length a.now) × ((i : ℕ) → result ≤ i → get_or a.now i 0 ≡ 0) }
 {
     let mut n = a.len();
+    // A while, since n, which falls by eights, is the answer.
     while 8 <= n && all_zero(&a[n - 8..n]) {
         n -= 8;
     }
@@ -69,7 +70,7 @@ pub fn leading(a: &[u16]) -> Residue
 
 // Whether the two are the same polynomial, whatever zeros stand behind.
 pub fn equal(a: &[u16], b: &[u16]) -> bool
-    ensures { (result ≡ true) ↔ SamePolynomial a.now b.now }
+    ensures { IsTrue result ↔ SamePolynomial a.now b.now }
 {
     a[..used(a)] == b[..used(b)]
 }

@@ -1,5 +1,5 @@
 // Residues modulo p. The modulus is a 32-bit number, so that 65,537 can be refused and not cut.
-ghost use Rattle.std.specs.Prelude.{◌≡◌, true, ◌↔◌, ◌+◌, ◌*◌, ◌-◌, ◌%◌, ◌<◌};
+ghost use Rattle.std.specs.Prelude.{◌≡◌, ◌↔◌, ◌+◌, ◌*◌, ◌-◌, ◌%◌, ◌<◌, IsTrue};
 ghost use Rattle.theory_algebra.specs.Prime.{Prime};
 ghost use Rattle.poly.specs.residues.Modulus.{Ready, Residues₂, Inverse};
 ghost use Rattle.theory_algebra.specs.Modulus.{Accepted, InRange};
@@ -10,7 +10,8 @@ use std::fmt;
 #[derive(Clone, Copy, Debug, PartialEq, Eq)]
 pub struct Residue(pub(crate) u16);
 
-// A modulus with the reciprocal by which remainders are taken: two products in place of a division.
+// A modulus with the reciprocal by which remainders are taken: two products in place of a division. The casts to fewer bits here and below
+// are proved to lose nothing: TryFrom would have an error that never comes.
 #[derive(Clone, Copy, Debug, PartialEq, Eq)]
 pub struct Modulus {
     pub p: u32,
@@ -21,7 +22,7 @@ pub struct Modulus {
 impl Modulus {
     // Whether p is a prime in 2 to 65,521.
     pub fn accepts(p: u32) -> bool
-        ensures { (result ≡ true) ↔ Accepted p }
+        ensures { IsTrue result ↔ Accepted p }
     {
         if Residue::LARGEST_MODULUS < p {
             return false;
@@ -136,7 +137,7 @@ impl Residue {
         Residue(md.remainder(u32::from(self.0) + u32::from(c.0) * u32::from(y.0)))
     }
 
-    // By p = (p / a) * a + p % a: each turn goes from a to p % a by one division, and so on down to 1.
+    // By p = (p / a) * a + p % a: each turn goes from a to p % a by one division, and so on down to 1; no range has these numbers.
     pub fn inverse(self, md: Modulus) -> Residue
         requires prime { Prime md.p }
         requires self_nonzero { (0 < self.0) × (self.0 < md.p) }
@@ -157,7 +158,7 @@ impl Residue {
 // Whether p is a prime, by trial division up to its root. Past 2 and 3 only 6k - 1 and 6k + 1 are tried, each by
 // one division: the quotient by d also tells when the root is passed.
 pub fn is_prime(p: u32) -> bool
-    ensures { (result ≡ true) ↔ Prime p }
+    ensures { IsTrue result ↔ Prime p }
 {
     if p < 4 {
         return 1 < p;
@@ -168,6 +169,7 @@ pub fn is_prime(p: u32) -> bool
     if p % 3 == 0 {
         return false;
     }
+    // A loop: it ends where the quotient falls below d, which no range says.
     let mut d: u32 = 5;
     loop {
         let q = p / d;

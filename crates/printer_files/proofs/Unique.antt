@@ -7,6 +7,7 @@ use lib.ListN.{length, take}
 use Rattle.std.specs.Prelude.{Result, Ok, Err}
 use Rattle.matrix_promises.specs.Answering.{Rule}
 use Rattle.matrix_refusals.specs.Number.{number_of}
+use Rattle.matrix_refusals.specs.declared.Numbers.{Numbers}
 use Rattle.matrix_refusals.specs.declared.Refusal.{Refusal}
 use Rattle.matrix_refusals.specs.declared.Refusal.TheVariants.{Modulus, Shape, Degree, Square, Length, Coefficient}
 use Rattle.matrix_refusals.proofs.Answering.{refusal-number}
@@ -16,7 +17,6 @@ use Rattle.printer_format.specs.Line.{Lines, read, wrong}
 use Rattle.printer_format.specs.File.{head_lines, body_lines, numbers_of, head_modulus, WrongLine}
 use Rattle.printer_files.specs.Table.{table_by, printer_table}
 use Rattle.printer_files.specs.Input.{input_number, input_place, InputRead, FileRead}
-use Rattle.printer_files.specs.declared.Head.{Head}
 use Rattle.printer_files.specs.declared.InputError.{InputError}
 use Rattle.printer_files.specs.declared.InputError.TheVariants.{Format, Refused}
 
@@ -43,7 +43,7 @@ less (Length k) = omega arith
 less (Coefficient i) = omega arith
 
 -- what a text is read as is determined by its number and its place, and where it is a matrix by the numbers of the head
-input-one : {table : List Rule} {p n m d : ℕ} {s room room' : List ℕ} (x y : Result Head InputError) → input_number x ≡ input_number y
+input-one : {table : List Rule} {p n m d : ℕ} {s room room' : List ℕ} (x y : Result Numbers InputError) → input_number x ≡ input_number y
     → input_place x ≡ input_place y → InputRead table p n m d s room x → InputRead table p n m d s room' y → x ≡ y
 input-one (Err (Format i)) (Err (Format j)) numbers places f g = ap (λ (k : ℕ). Err (Format k)) places
 input-one (Err (Format i)) (Err (Refused y)) numbers places f g = absurd (omega (arith, numbers, less y))
@@ -60,12 +60,12 @@ input-one (Ok head) (Ok head') numbers places f g =
     ∙ sym (λ i. record { p = y.modulus i; n = y.rows i; m = y.columns i; d = y.degree i }))
 
 -- two answers of `read_file` that the promise allows are equal
-pub file-read-unique : (s room room' : List ℕ) (x y : Result Head InputError) → FileRead s room x → FileRead s room' y → x ≡ y
+pub file-read-unique : (s room room' : List ℕ) (x y : Result Numbers InputError) → FileRead s room x → FileRead s room' y → x ≡ y
 file-read-unique s room room' x y f g =
     let (numbers, places) = printer-unique s _ _ _ _ f.told g.told in input-one x y numbers places f g
 
 -- and so is the matrix in the room, where one was read
-pub file-room-unique : (s room room' : List ℕ) (head : Head) → FileRead s room (Ok head) → FileRead s room' (Ok head)
+pub file-room-unique : (s room room' : List ℕ) (head : Numbers) → FileRead s room (Ok head) → FileRead s room' (Ok head)
     → take (head.n * head.m * (head.d + 1)) room ≡ take (head.n * head.m * (head.d + 1)) room'
 file-room-unique s room room' head f g = front f ∙ sym (front g)
   where

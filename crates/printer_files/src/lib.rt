@@ -9,18 +9,9 @@ ghost use Rattle.printer_reading.specs.Read.{FieldRead, CellsAsked};
 ghost use Rattle.printer_files.specs.Input.{input_number, input_place, HeadRead, MatrixRead, BodyRead, FileRead};
 ghost use Rattle.printer_files.specs.declared.InputError.TheVariants.{Format, Refused};
 
-use matrix_refusals::{Refusal, checks};
+use matrix_refusals::{Numbers, Refusal, checks};
 use printer_format::keys;
 use printer_reading::WrongCell;
-
-// What the head lines say of the matrix: its modulus, its rows and columns, and its degree.
-#[derive(Clone, Copy, Debug, PartialEq, Eq)]
-pub struct Head {
-    pub p: u32,
-    pub n: usize,
-    pub m: usize,
-    pub d: usize,
-}
 
 // Why a text is refused: the first line that isn't as said, or 0 where the text is too long, or what is refused of its matrix.
 #[derive(Clone, Copy, Debug, PartialEq, Eq)]
@@ -79,16 +70,16 @@ fn head_line<'a>(s: &'a [u8], line: usize, key: &[u8]) -> Result<(u16, &'a [u8])
     printer_reading::read_field(s, key).ok_or(WrongLine(line))
 }
 
-// The four head lines, and the text after them.
+// What the four head lines say of the matrix, and the text after them.
 #[tactic(auto, unfolding(printer_format::specs::Line::read_lines))]
-fn read_head(s: &[u8]) -> Result<(Head, &[u8]), WrongLine>
+fn read_head(s: &[u8]) -> Result<(Numbers, &[u8]), WrongLine>
     ensures { HeadRead (head_lines s.now) result }
 {
     let (p, rest) = head_line(s, 1, keys::MODULUS)?;
     let (n, rest) = head_line(rest, 2, keys::ROWS)?;
     let (m, rest) = head_line(rest, 3, keys::COLUMNS)?;
     let (d, rest) = head_line(rest, 4, keys::DEGREE)?;
-    let head = Head {
+    let head = Numbers {
         p: u32::from(p),
         n: usize::from(n),
         m: usize::from(m),
@@ -98,7 +89,7 @@ fn read_head(s: &[u8]) -> Result<(Head, &[u8]), WrongLine>
 }
 
 // The cells, after which nothing may follow. The first of them is line 5.
-fn read_matrix(s: &[u8], head: Head, room: &mut [u16]) -> Result<(), WrongLine>
+fn read_matrix(s: &[u8], head: Numbers, room: &mut [u16]) -> Result<(), WrongLine>
     requires { CellsAsked head.n head.m head.d room.old }
     ensures { MatrixRead (cell_lines head.n head.m head.d s.now) room.new result }
 {
@@ -110,11 +101,11 @@ fn read_matrix(s: &[u8], head: Head, room: &mut [u16]) -> Result<(), WrongLine>
 }
 
 // All that follows the head, with the refusals in order.
-fn read_body(s: &[u8], head: Head, room: &mut [u16]) -> Result<Head, InputError>
+fn read_body(s: &[u8], head: Numbers, room: &mut [u16]) -> Result<Numbers, InputError>
     requires { length room.old ≡ 4096 }
     ensures { BodyRead head s.now room.new result }
 {
-    checks::check_numbers(head.p, head.n, head.m, head.d)?;
+    checks::check_numbers(head)?;
     let places = &mut room[..head.n * head.m * (head.d + 1)];
     read_matrix(s, head, places)?;
     checks::check_coefficients(places, head.p)?;
@@ -122,7 +113,7 @@ fn read_body(s: &[u8], head: Head, room: &mut [u16]) -> Result<Head, InputError>
 }
 
 // A whole text, whose coefficients go to the front of the room.
-pub fn read_file(s: &[u8], room: &mut [u16]) -> Result<Head, InputError>
+pub fn read_file(s: &[u8], room: &mut [u16]) -> Result<Numbers, InputError>
     requires { length room.old ≡ 4096 }
     ensures { FileRead s.now room.new result }
 {

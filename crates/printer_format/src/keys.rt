@@ -46,6 +46,7 @@ pub fn numeral(v: usize) -> u8
     requires { v < 10 }
     ensures { result ≡ digit v }
 {
+    // By `as`, since a u8 is From no usize: a digit fits.
     b'0' + (v as u8)
 }
 

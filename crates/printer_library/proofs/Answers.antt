@@ -12,7 +12,7 @@ use Rattle.matrix_promises.proofs.Held.{held-coefficients}
 use Rattle.matrix_promises.specs.Layout.{by_rows}
 use Rattle.matrix_buffers.proofs.Bounds.{matrix-few}
 use Rattle.matrix_promises.specs.Refused.{Numbers, reduction_sizes, determinant_sizes, square_rule, length_rule, coefficient_rule}
-use Rattle.matrix_refusals.proofs.Answering.{not_done}
+use Rattle.matrix_refusals.proofs.Answering.{refusal-number}
 use Rattle.matrix_promises.proofs.Tables.{past-numbers}
 use Rattle.matrix_refusals.proofs.checks.Verdicts.{in_bounds}
 use Rattle.matrix_promises.proofs.Tables.{matrix-decided, determinant-decided}
@@ -23,12 +23,12 @@ use Rattle.matrix_promises.specs.Services.{determinant}
 use Rattle.matrix_promises.proofs.Alone.{alone}
 use Rattle.matrix.specs.Reduction.{Answered}
 use Rattle.matrix.specs.declared.reduction.Reduction.{Reduction}
+use Rattle.matrix_refusals.specs.declared.Numbers.{Numbers as Head}
 use Rattle.matrix_refusals.specs.declared.Refusal.{Refusal}
 use Rattle.std.specs.Prelude.{Result, Ok, Err, MatchResult}
 use Rattle.printer_format.specs.File.{head_lines, numbers_of, head_modulus, head_rows, head_columns, head_degree, body_lines}
 use Rattle.printer_format.proofs.Room.{Writable, Answerable}
 use Rattle.printer_files.specs.Input.{FileRead}
-use Rattle.printer_files.specs.declared.Head.{Head}
 use Rattle.printer_files.proofs.Accepted.{accepted}
 use Rattle.printer_library.specs.Printed.{MatrixAnswer, Printed}
 use Rattle.printer_library.specs.Asked.{MatrixTaken, ResultAsked}
@@ -49,7 +49,8 @@ module _ {p n m d : ℕ} {a : List ℕ} (asked : MatrixTaken p n m d a) where
       let given = length a ∷ length r ∷ length u ∷ length v ∷ [] in
       let fine = past-numbers (length_rule given (reduction_sizes n m d) ∷ coefficient_rule p a ∷ []) asked.numbers
       (inr ((λ i. asked.size i ∷ r_size i ∷ u_size i ∷ v_size i ∷ []), inr (asked.residues, (refl, refl)))) in
-      not_done y (matrix-decided _ _ _ _ answered.told fine).0
+      let none = (matrix-decided _ _ _ _ answered.told fine).0 in
+      omega (arith, none, refusal-number y)
 
 -- a determinant has at most 505 places
 pub determinant-few : {p n m d : ℕ} → Numbers p n m d → n * d + 1 ≤ 505

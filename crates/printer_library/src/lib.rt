@@ -8,7 +8,7 @@ ghost use Rattle.printer_library.specs.Asked.{MatrixTaken, ResultAsked};
 
 use matrix::reduction::Reduction;
 use matrix::{determinant, reduction};
-use printer_files::Head;
+use matrix_refusals::Numbers;
 use printer_writing::{Answer, Page};
 
 // Room for every answer.
@@ -33,17 +33,18 @@ fn answer_refusal(number: usize, place: usize) -> Page
 }
 
 // The answer for a matrix that is reduced to r.
-fn answer_reduced(head: Head, a: &[u16], r: &[u16], found: Reduction) -> Page
+fn answer_reduced(head: Numbers, a: &[u16], r: &[u16], found: Reduction) -> Page
     requires { ResultAsked head.p head.n head.m head.d a.now r.now found.rank found.count }
     ensures { MatrixAnswer head.p head.n head.m head.d a.now result.items }
 {
-    let Head { p, n, m, d } = head;
+    let Numbers { n, m, d, .. } = head;
     let mut room = [0; DETERMINANT];
     let det = &mut room[..n * d + 1];
     // The service refuses a matrix that is not square, and nothing is printed of it then.
-    let _ = determinant::determinant(p, n, m, d, a, det);
+    let _ = determinant::determinant(head, a, det);
     let answer = Answer {
         rank: found.rank,
+        // By `as`, since a usize is From no u64: both have 64 bits.
         steps: found.count as usize,
         n,
         m,
@@ -57,11 +58,11 @@ fn answer_reduced(head: Head, a: &[u16], r: &[u16], found: Reduction) -> Page
 }
 
 // The answer for a matrix.
-fn answer_matrix(head: Head, a: &[u16]) -> Page
+fn answer_matrix(head: Numbers, a: &[u16]) -> Page
     requires { MatrixTaken head.p head.n head.m head.d a.now }
     ensures { MatrixAnswer head.p head.n head.m head.d a.now result.items }
 {
-    let Head { p, n, m, d } = head;
+    let Numbers { n, m, d, .. } = head;
     let cell = n * (d + 1);
     let mut r_room = [0; MATRIX];
     let mut u_room = [0; TRANSFORM];
@@ -69,7 +70,7 @@ fn answer_matrix(head: Head, a: &[u16]) -> Page
     let r = &mut r_room[..n * (m * (d + 1))];
     let u = &mut u_room[..n * (n * cell)];
     let v = &mut v_room[..n * cell];
-    let Ok(found) = reduction::reduce(p, n, m, d, a, r, u, v) else {
+    let Ok(found) = reduction::reduce(head, a, r, u, v) else {
         // What the reduction would refuse was asked of the text.
         unreachable!();
     };

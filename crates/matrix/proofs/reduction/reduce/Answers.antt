@@ -1,4 +1,4 @@
-use mathlib.Core.Path.{refl, sym}
+use mathlib.Core.Path.{refl}
 use Rattle.matrix_promises.proofs.Tables.{in_order}
 use Rattle.matrix_refusals.proofs.Answering.{answer-done}
 use Rattle.matrix_reduction.proofs.NonzeroRows.{listed}
@@ -8,5 +8,6 @@ use Rattle.matrix.proofs.reduction.reduce.Goals as goal
 pub returns : goal.returns
 returns c =
     let order = in_order refl c.in_ok-check_reduction.ensures in
-    answer-done c.in_ok-check_reduction.ensures
-    (rw (sym c.of.ensures.0) (c.work-x.ensures, listed order.numbers.shape.columns c.work-x.ensures c.list.ensures))
+    let reduced = rw (c.of.ensures, c.shape-shape.ensures) at c.work-x.ensures in
+    let rows = rw c.shape-shape.ensures at c.list.ensures in
+    answer-done c.in_ok-check_reduction.ensures (reduced, listed order.numbers.shape.columns reduced rows)

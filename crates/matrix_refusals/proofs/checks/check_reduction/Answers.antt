@@ -19,8 +19,8 @@ returns-in_err-check_matrix c =
     rw is (of-more (coefficient_rule _ _ ∷ []) (refusal-number _) c.in_err-check_matrix.ensures)
 
 -- past the first test the numbers and two lengths are right
-known : (c : In_ok-check_matrix) → let args = c.args in
-    Numbers args.p args.n args.m args.d × (length args.a.now ∷ args.r ∷ [] ≡ step_sizes args.n args.m args.d)
+known : (c : In_ok-check_matrix) → let numbers = c.args.numbers in
+    Numbers numbers.p numbers.n numbers.m numbers.d × (length c.args.a.now ∷ c.args.r ∷ [] ≡ step_sizes numbers.n numbers.m numbers.d)
 known c =
     let (numbers, after) = in-range (length_rule _ _ ∷ []) refl c.in_ok-check_matrix.ensures in (numbers, (past refl (omega arith) after).0)
 

@@ -13,11 +13,11 @@ returns-then-n-eq0 c = nothing-added _ _ _ _ _ c.requires (sym c.used-n.ensures.
 room : (c : Else-n-eq0) → c.args.e + c.used-n.result ≤ length c.args.a.now
 room c = fits _ _ _ _ _ c.requires _ c.used-n.ensures.0 (omega arith)
 
-pub overflow_add-end : goal.overflow_add-end
-overflow_add-end c = omega (arith, room (goal.at.overflow_add-end c).Else-n-eq0)
+pub overflow_add-e : goal.overflow_add-e
+overflow_add-e c = omega (arith, room (goal.at.overflow_add-e c).Else-n-eq0)
 
-pub offset_bounds-a-start : goal.offset_bounds-a-start
-offset_bounds-a-start c = omega (arith, room (goal.at.offset_bounds-a-start c).Else-n-eq0)
+pub offset_bounds-a-e : goal.offset_bounds-a-e
+offset_bounds-a-e c = omega (arith, room (goal.at.offset_bounds-a-e c).Else-n-eq0)
 
 pub slice_bounds-add_scaled-end : goal.slice_bounds-add_scaled-end
 slice_bounds-add_scaled-end c = omega (arith, room (goal.at.slice_bounds-add_scaled-end c).Else-n-eq0)
