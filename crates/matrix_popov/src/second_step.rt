@@ -24,8 +24,7 @@ fn excess(r: &[u16], shape: Shape, k: usize, pivot: Pivot) -> Option<usize>
     ensures { let x = excess_of shape.m shape.w r.now k pivot in SomeIff result (0 < x) (x - 1) }
 {
     let start = k * shape.row() + pivot.index.column() * shape.w;
-    let end = start + shape.w;
-    let places = polynomial::used(&r[start..end]);
+    let places = polynomial::used(&r[start..start + shape.w]);
     pivot.degree.excess(places)
 }
 
@@ -53,13 +52,12 @@ fn plan(r: &[u16], shape: Shape, step: Step, e: usize, md: Modulus) -> Multiple
     requires { TermAsked md.p shape.m shape.w step.pair.l step.pair.k step.low e r.now }
     ensures { Removes md.p shape.m shape.w step.pair.l step.pair.k step.low e r.now result.exponent result.factor.0 result.negated.0 }
 {
-    let low = step.low;
     let term = Pivot {
-        index: low.index,
-        degree: low.degree.raised(e),
+        index: step.low.index,
+        degree: step.low.degree.raised(e),
     };
     let a = multiple::coefficient(r, shape, step.pair.l, term);
-    let b = multiple::coefficient(r, shape, step.pair.k, low);
+    let b = multiple::coefficient(r, shape, step.pair.k, step.low);
     multiple::divide(a, b, e, md)
 }
 
@@ -80,10 +78,9 @@ fn remove(
     let pair = step.pair;
     let x = plan(r, shape, step, e, md);
     let from = step.low.degree.places();
-    let until = step.high.degree.places();
     let top = Ranges {
         u: shape.n * shape.w - e,
-        v: shape.w + 1 - until,
+        v: shape.w + 1 - step.high.degree.places(),
     };
     add_row(r, shape, pair.l, pair.k, from, x.negated, x.exponent, md);
     follow(u, v, shape, pair, x, top, md);
@@ -102,7 +99,7 @@ fn clear_row(
     requires { ClearAsked md.p shape.n shape.m shape.w k r.old u.old v.old pivots.now }
     ensures { Cleared md.p shape.n shape.m shape.w (k + 1) result pivots.now r.old u.old v.old r.new u.new v.new }
 {
-    let mut count: u64 = 0;
+    let mut count = 0;
     while let Some(x) = highest(r, shape, pivots, k) {
         let step = Step {
             pair: Pair { l: k, k: x.at },
@@ -127,7 +124,7 @@ pub(crate) fn remove_all(
     requires { RemovingAsked md.p shape.n shape.m shape.w r.old u.old v.old pivots.now }
     ensures { Cleared md.p shape.n shape.m shape.w shape.n result pivots.now r.old u.old v.old r.new u.new v.new }
 {
-    let mut count: u64 = 0;
+    let mut count = 0;
     for k in 1..shape.n {
         if pivots[k].index.is_zero_row() {
             return count;
