@@ -30,15 +30,16 @@ pub fn reduce(
 {
     checks::check_reduction(numbers, a, r.len(), u.len(), v.len())?;
     let shape = numbers.shape();
-    let x = work(a, r, u, v, shape, Modulus::of(numbers.p));
+    let reached = work(a, r, u, v, shape, Modulus::of(numbers.p));
     Ok(Reduction {
-        rank: x.rank,
-        count: x.count,
+        rank: reached.rank,
+        count: reached.count,
         rows: nonzero_rows::list(r, shape),
     })
 }
 
 // The reduction behind the checks: "U, which starts as the identity; V starts as the identity".
+// R, U and V go one by one, as in C: matrix_reduction::run says why no struct has them.
 pub(crate) fn work(
     a: &[u16],
     r: &mut [u16],

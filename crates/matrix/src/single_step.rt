@@ -11,6 +11,5 @@ pub fn step(numbers: Numbers, a: &[u16], r: &mut [u16]) -> Result<u64, Refusal>
 {
     checks::check_step(numbers, a, r.len())?;
     arithmetic::copy(a, r);
-    let shape = numbers.shape();
-    Ok(matrix_reduction::once(r, shape, Modulus::of(numbers.p)))
+    Ok(matrix_reduction::once(r, numbers.shape(), Modulus::of(numbers.p)))
 }

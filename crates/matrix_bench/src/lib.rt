@@ -8,6 +8,7 @@ use matrix_reduction::Reached;
 use matrix_refusals::{Numbers, Refusal, checks};
 use poly::{Modulus, arithmetic};
 
+// For C: numbers only, 0 where there is nothing to say.
 #[repr(C)]
 #[derive(Drop)]
 pub struct AloneReply {
@@ -39,6 +40,7 @@ impl From<Result<Reached, Refusal>> for AloneReply {
 }
 
 // R alone: refused as the single step is, or the weak Popov form of the matrix in a, in r.
+// The call is written out: its short name, short_call, is of matrix, on which this crate does not stand.
 fn alone(numbers: Numbers, a: &[u16], r: &mut [u16]) -> Result<Reached, Refusal>
     ensures { AloneReplied (record { p = numbers.p; n = numbers.n; m = numbers.m; d = numbers.d; a = a.now; r = r.old }) r.new (reply_of result) }
 {

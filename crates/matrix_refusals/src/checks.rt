@@ -39,27 +39,18 @@ fn one_to_eight(n: usize) -> bool
     (1..=8).contains(&n)
 }
 
-// Refusal 5 for the two buffers that every service has: input and result have a and r places, and should have `places` and `result`.
-fn check_lengths(a: usize, places: usize, r: usize, res: usize) -> Result<(), Refusal>
-    ensures { Verdict (length_rule (a ∷ r ∷ []) (places ∷ res ∷ []) ∷ []) result }
+// Refusal 5: the first buffer whose length is not its size, counted from 1.
+fn check_lengths<const N: usize>(lengths: &[usize; N], sizes: &[usize; N]) -> Result<(), Refusal>
+    ensures { Verdict (length_rule lengths.now sizes.now ∷ []) result }
 {
-    if a != places {
-        return Err(Refusal::Length(1));
+    match lengths
+        .iter()
+        .zip(sizes.iter())
+        .position(|(length, size)| length != size)
+    {
+        Some(i) => Err(Refusal::Length(i + 1)),
+        None => Ok(()),
     }
-    if r != res {
-        return Err(Refusal::Length(2));
-    }
-    Ok(())
-}
-
-// Refusals 1 to 3, and 5 for these two buffers, where the result is a matrix.
-fn check_matrix(numbers: Numbers, a: usize, r: usize) -> Result<(), Refusal>
-    ensures { Verdict (number_rules numbers.p numbers.n numbers.m numbers.d (length_rule (a ∷ r ∷ []) (step_sizes numbers.n numbers.m numbers.d) ∷ [])) result }
-{
-    check_numbers(numbers)?;
-    let Numbers { n, m, d, .. } = numbers;
-    let places = n * (m * (d + 1));
-    check_lengths(a, places, r, places)
 }
 
 // Refusal 6.
@@ -76,8 +67,11 @@ pub fn check_coefficients(a: &[u16], p: u32) -> Result<(), Refusal>
 pub fn check_step(numbers: Numbers, a: &[u16], r: usize) -> Result<(), Refusal>
     ensures { Verdict (matrix_table numbers.p numbers.n numbers.m numbers.d (length a.now ∷ r ∷ []) (step_sizes numbers.n numbers.m numbers.d) a.now) result }
 {
-    check_matrix(numbers, a.len(), r)?;
-    check_coefficients(a, numbers.p)
+    check_numbers(numbers)?;
+    let Numbers { p, n, m, d } = numbers;
+    let places = n * (m * (d + 1));
+    check_lengths(&[a.len(), r], &[places, places])?;
+    check_coefficients(a, p)
 }
 
 // The checks of the reduction, whose result, U and V have r, u and v places.
@@ -90,16 +84,15 @@ pub fn check_reduction(
 ) -> Result<(), Refusal>
     ensures { Verdict (matrix_table numbers.p numbers.n numbers.m numbers.d (length a.now ∷ r ∷ u ∷ v ∷ []) (reduction_sizes numbers.n numbers.m numbers.d) a.now) result }
 {
-    check_matrix(numbers, a.len(), r)?;
-    let Numbers { n, d, .. } = numbers;
+    check_numbers(numbers)?;
+    let Numbers { p, n, m, d } = numbers;
+    let places = n * (m * (d + 1));
     let cell = n * (d + 1);
-    if u != n * (n * cell) {
-        return Err(Refusal::Length(3));
-    }
-    if v != n * cell {
-        return Err(Refusal::Length(4));
-    }
-    check_coefficients(a, numbers.p)
+    check_lengths(
+        &[a.len(), r, u, v],
+        &[places, places, n * (n * cell), n * cell],
+    )?;
+    check_coefficients(a, p)
 }
 
 // The checks of the determinant, whose result has r places.
@@ -111,6 +104,6 @@ pub fn check_determinant(numbers: Numbers, a: &[u16], r: usize) -> Result<(), Re
     if n != m {
         return Err(Refusal::Square);
     }
-    check_lengths(a.len(), n * (m * (d + 1)), r, n * d + 1)?;
+    check_lengths(&[a.len(), r], &[n * (m * (d + 1)), n * d + 1])?;
     check_coefficients(a, p)
 }

@@ -8,6 +8,6 @@ use Rattle.matrix.proofs.reduction.reduce.Goals as goal
 pub returns : goal.returns
 returns c =
     let order = in_order refl c.in_ok-check_reduction.ensures in
-    let reduced = rw (c.of.ensures, c.shape-shape.ensures) at c.work-x.ensures in
+    let reduced = rw (c.of.ensures, c.shape-shape.ensures) at c.work-reached.ensures in
     let rows = rw c.shape-shape.ensures at c.list.ensures in
     answer-done c.in_ok-check_reduction.ensures (reduced, listed order.numbers.shape.columns reduced rows)
