@@ -1,7 +1,7 @@
 // The numbers of a call, the refusals with their numbers and places, and the checks that lead to them.
 #![tactic(auto)]
 
-ghost use Rattle.std.specs.Prelude.{◌≡◌, ◌+◌, ◌<◌};
+ghost use Rattle.std.specs.Prelude.{◌≡◌, ◌+◌, ◌^◌, ◌<◌};
 ghost use Rattle.matrix_refusals.specs.Number.{number_of, place_of};
 
 pub mod checks;
@@ -20,7 +20,7 @@ pub struct Numbers {
 impl Numbers {
     // The shape of the input: a cell has a place for each degree up to d.
     pub fn shape(self) -> Shape
-        requires { self.d + 1 < 18446744073709551616 }
+        requires { self.d + 1 < 2 ^ 64 }
         ensures { result ≡ record { n = self.n; m = self.m; w = self.d + 1 } }
     {
         Shape {
