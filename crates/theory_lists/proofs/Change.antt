@@ -7,7 +7,6 @@ use native.Mathlib.Decide.{dec_le}
 use native.Mathlib.Numerals.{add-one}
 use native.Mathlib.Omega.{arith}
 use lib.ListN.{length, get_or, set, length-set}
-use lib.Seq.{ext_get_or}
 use Rattle.theory_lists.specs.Change.{imap, upto}
 
 pub length-imap : (f : ℕ → ℕ → ℕ) (l : List ℕ) → length (imap f l) ≡ length l
@@ -33,11 +32,6 @@ get_or-imap-every f l i h = elim (dec_le (length l) i) [
   | no before ↦ get_or-imap f l i (omega arith)
 ]
 
--- a list whose every element is that of another
-pub imap-copy : (from to : List ℕ) → length from ≡ length to → imap (λ i x. get_or from i 0) to ≡ from
-imap-copy from to same =
-    ext_get_or 0 _ from (length-imap _ to ∙ sym same) (λ i h. get_or-imap _ to i (rw length-imap at h))
-
 upto_all : (n : ℕ) (f : ℕ → ℕ → ℕ) (l : List ℕ) → length l ≤ n → upto n f l ≡ imap f l
 unfolding imap upto
 upto_all zero f [] h = refl
@@ -51,13 +45,6 @@ upto-later zero f l j h = refl
 upto-later (suc n) f [] j h = refl
 upto-later (suc n) f (x ∷ l) zero h = absurd (not-suc-le-zero h)
 upto-later (suc n) f (x ∷ l) (suc j) h = upto-later n (λ i. f (suc i)) l j (le_of_suc-le-suc h)
-
-upto_done : (n : ℕ) (f : ℕ → ℕ → ℕ) (l : List ℕ) (j : ℕ) → j < n → j < length l → get_or (upto n f l) j 0 ≡ f j (get_or l j 0)
-unfolding upto
-upto_done n f [] j h k = absurd (not-suc-le-zero k)
-upto_done zero f (x ∷ l) j h k = absurd (not-suc-le-zero h)
-upto_done (suc n) f (x ∷ l) zero h k = refl
-upto_done (suc n) f (x ∷ l) (suc j) h k = upto_done n (λ i. f (suc i)) l j (le_of_suc-le-suc h) (le_of_suc-le-suc k)
 
 upto-more : (n : ℕ) (f : ℕ → ℕ → ℕ) (l : List ℕ) → n < length l → set (upto n f l) n (f n (get_or l n 0)) ≡ upto (suc n) f l
 unfolding upto
@@ -86,10 +73,6 @@ module _ (f : ℕ → ℕ → ℕ) (l₀ l : List ℕ) (i : ℕ) (c : Changing f
     same = length-set l i v ∙ c.same;
     now = ap₂ (λ (t : List ℕ) (x : ℕ). set t i x) c.now (v-is ∙ ap (f i) changing-next) ∙ upto-more i f l₀ h ∙ ap (λ (n : ℕ). upto n f l₀) (sym (add-one i));
   }
-
-  -- what it has passed follows the rule
-  pub changing-past : (j : ℕ) → j < i → get_or l j 0 ≡ f j (get_or l₀ j 0)
-  changing-past j h = ap (λ (t : List ℕ). get_or t j 0) c.now ∙ upto_done i f l₀ j h (omega (arith, c.to))
 
   pub changing-end : length l₀ ≤ i → l ≡ imap f l₀
   changing-end h = c.now ∙ upto_all i f l₀ h

@@ -5,5 +5,4 @@ pub mod Total
 pub mod Skip
 pub mod Grid
 pub mod Permutation
-pub mod First
 pub mod Place
