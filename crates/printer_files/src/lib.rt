@@ -50,8 +50,8 @@ impl InputError {
 impl From<Refusal> for InputError {
     ghost from_gives = { λ x e. e ≡ Refused x };
 
-    fn from(x: Refusal) -> InputError {
-        InputError::Refused(x)
+    fn from(refusal: Refusal) -> InputError {
+        InputError::Refused(refusal)
     }
 }
 
