@@ -7,7 +7,7 @@ ghost use Rattle.matrix_reduction.specs.NonzeroRows.{ListAsked};
 use matrix_buffers::Shape;
 use poly::polynomial;
 
-// Which rows of r are not zero: bit i - 1 stands for row i.
+// Which rows of r are not zero: bit i stands for row i, counted from 0.
 pub fn list(r: &[u16], shape: Shape) -> usize
     requires { ListAsked shape.n shape.m shape.w r.now }
     ensures { result ≡ mask_of shape.n (values_of shape.m shape.w r.now) }
