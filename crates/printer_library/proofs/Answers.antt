@@ -26,11 +26,33 @@ use Rattle.matrix.specs.declared.reduction.Reduction.{Reduction}
 use Rattle.matrix_refusals.specs.declared.Refusal.{Refusal}
 use Rattle.std.specs.Prelude.{Result, Ok, Err, MatchResult}
 use Rattle.printer_format.specs.File.{head_lines, numbers_of, head_modulus, head_rows, head_columns, head_degree, body_lines}
+use Rattle.printer_format.specs.Answer.{refusal_text, output_room}
 use Rattle.printer_format.proofs.Room.{Writable, Answerable}
-use Rattle.printer_files.specs.Input.{FileRead}
+use Rattle.printer_files.specs.Input.{FileRead, input_number, input_place}
+use Rattle.printer_files.specs.declared.InputError.{InputError}
+use Rattle.printer_files.specs.declared.InputError.TheVariants.{TooLong, Format, Refused}
 use Rattle.printer_files.proofs.Accepted.{accepted}
-use Rattle.printer_library.specs.Printed.{MatrixAnswer, Printed}
+use Rattle.printer_writing.specs.Wrote.{written, Wrote}
+use Rattle.std.proofs.lemmas.List.Edits.{sets-eq}
+use Rattle.printer_library.specs.Printed.{MatrixAnswer, Printed, Output}
 use Rattle.printer_library.specs.Asked.{MatrixTaken, ResultAsked}
+
+-- a text that is written to the front of the output, and fits
+pub output : {Is : List ℕ → Type 0} {out text : List ℕ} {size : ℕ} {out' : List ℕ} → Is text → length text ≤ output_room
+    → length out ≡ output_room → Wrote out 0 text size out' → Output Is out size out'
+unfolding written
+output {out = out} {text} is fits room wrote = record {
+  text = text;
+  is = is;
+  all = omega (arith, wrote.next);
+  wrote = wrote.now ∙ rw wrote.next (sets-eq text out 0 (omega (arith, fits, room)));
+  fits = omega (arith, wrote.next, fits);
+}
+
+-- and one that is also something else
+pub output-as : {Is Is' : List ℕ → Type 0} {out : List ℕ} {size : ℕ} {out' : List ℕ} → ((w : List ℕ) → Is w → Is' w)
+    → Output Is out size out' → Output Is' out size out'
+output-as too x = record { text = x.text; is = too x.text x.is; all = x.all; wrote = x.wrote; fits = x.fits }
 
 module _ {p n m d : ℕ} {a : List ℕ} (asked : MatrixTaken p n m d a) where
   pub determined : {det det' : List ℕ} {number place : ℕ} → length det ≡ n * d + 1
@@ -87,6 +109,23 @@ module _ {p n m d : ℕ} {a r det : List ℕ} {rank count : ℕ} (asked : Result
         determinant-small = λ square. writable numbers.modulus.most
             (held-coefficients (by_rows 1 1 (n * d + 1)) p ((determined square).by numbers.modulus.prime some));
       }
+
+-- a refusal has a number
+some-number : (e : InputError) → 0 < input_number (Err e)
+some-number TooLong = omega arith
+some-number (Format line) = omega arith
+some-number (Refused x) = refusal-number x
+
+-- a text that is refused
+pub printed-refused : (s : List ℕ) {room w : List ℕ} (e : InputError) → FileRead s room (Err e)
+    → w ≡ refusal_text (input_number (Err e)) (input_place (Err e)) → Printed s w
+printed-refused s e found is = record {
+  number = input_number (Err e);
+  place = input_place (Err e);
+  told = found.told;
+  refused = λ _. is;
+  done = λ none. absurd (omega (arith, some-number e, none));
+}
 
 -- a text that is read as a matrix
 module _ (s : List ℕ) {room : List ℕ} (head : _) (found : FileRead s room (Ok head)) where

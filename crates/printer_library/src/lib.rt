@@ -9,10 +9,10 @@ ghost use Rattle.printer_library.specs.Asked.{MatrixTaken, ResultAsked};
 use matrix::reduction::Reduction;
 use matrix::{determinant, reduction};
 use matrix_refusals::Numbers;
-use printer_writing::{Answer, Page};
+use printer_writing::Answer;
 
 // Room for every answer.
-pub use printer_writing::OUTPUT;
+pub const OUTPUT: usize = 27928;
 
 // Room for the largest matrix, and for V.
 const MATRIX: usize = 4096;
@@ -24,18 +24,22 @@ const TRANSFORM: usize = 32768;
 const DETERMINANT: usize = 505;
 
 // The answer for a text that is refused, by the number and the place of the table.
-fn answer_refusal(number: usize, place: usize) -> Page
-    ensures { result.items ≡ refusal_text number place }
+fn answer_refusal(out: &mut [u8; OUTPUT], number: usize, place: usize) -> usize
+    ensures { Output (λ w. w ≡ refusal_text number place) out.old result out.new }
 {
-    let mut page = Page::new();
-    printer_writing::put_refusal(&mut page, number, place);
-    page
+    printer_writing::put_refusal(out, number, place)
 }
 
 // The answer for a matrix that is reduced to r.
-fn answer_reduced(numbers: Numbers, a: &[u16], r: &[u16], found: Reduction) -> Page
+fn answer_reduced(
+    out: &mut [u8; OUTPUT],
+    numbers: Numbers,
+    a: &[u16],
+    r: &[u16],
+    found: Reduction,
+) -> usize
     requires { ResultAsked numbers.p numbers.n numbers.m numbers.d a.now r.now found.rank found.count }
-    ensures { MatrixAnswer numbers.p numbers.n numbers.m numbers.d a.now result.items }
+    ensures { Output (MatrixAnswer numbers.p numbers.n numbers.m numbers.d a.now) out.old result out.new }
 {
     let Numbers { n, m, d, .. } = numbers;
     let mut room = [0; DETERMINANT];
@@ -52,15 +56,13 @@ fn answer_reduced(numbers: Numbers, a: &[u16], r: &[u16], found: Reduction) -> P
         r,
         det,
     };
-    let mut page = Page::new();
-    printer_writing::put_answer(&mut page, &answer);
-    page
+    printer_writing::put_answer(out, &answer)
 }
 
 // The answer for a matrix.
-fn answer_matrix(numbers: Numbers, a: &[u16]) -> Page
+fn answer_matrix(out: &mut [u8; OUTPUT], numbers: Numbers, a: &[u16]) -> usize
     requires { MatrixTaken numbers.p numbers.n numbers.m numbers.d a.now }
-    ensures { MatrixAnswer numbers.p numbers.n numbers.m numbers.d a.now result.items }
+    ensures { Output (MatrixAnswer numbers.p numbers.n numbers.m numbers.d a.now) out.old result out.new }
 {
     let Numbers { n, m, d, .. } = numbers;
     let cell = n * (d + 1);
@@ -74,26 +76,20 @@ fn answer_matrix(numbers: Numbers, a: &[u16]) -> Page
         // What the reduction would refuse was asked of the text.
         unreachable!();
     };
-    answer_reduced(numbers, a, r, found)
-}
-
-// The answer to the text.
-fn answer(text: &[u8]) -> Page
-    ensures { Printed text.now result.items }
-{
-    let mut room = [0; MATRIX];
-    match printer_files::read_file(text, &mut room) {
-        Err(error) => answer_refusal(error.number(), error.place()),
-        Ok(numbers) => answer_matrix(numbers, &room[..numbers.n * (numbers.m * (numbers.d + 1))]),
-    }
+    answer_reduced(out, numbers, a, r, found)
 }
 
 // Writes the answer to the text, and returns its length.
 pub fn print(text: &[u8], out: &mut [u8; OUTPUT]) -> usize
     ensures { Output (Printed text.now) out.old result out.new }
 {
-    let page = answer(text);
-    let used = page.len();
-    out[..used].copy_from_slice(page.as_slice());
-    used
+    let mut room = [0; MATRIX];
+    match printer_files::read_file(text, &mut room) {
+        Err(error) => answer_refusal(out, error.number(), error.place()),
+        Ok(numbers) => answer_matrix(
+            out,
+            numbers,
+            &room[..numbers.n * (numbers.m * (numbers.d + 1))],
+        ),
+    }
 }

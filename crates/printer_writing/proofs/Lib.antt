@@ -1,2 +1,3 @@
-pub mod Texts
-pub mod Unique
+pub mod Writing
+pub mod Digits
+pub mod Turns

@@ -1,8 +1,7 @@
 -- What the lines of a matrix and of an answer ask.
 use Rattle.std.specs.Prelude.{ℕ, ◌+◌, ◌*◌, ◌≤◌, List, length}
-use Rattle.arrayvec.specs.ArrayVec.{ArrayVec}
 use Rattle.printer_format.specs.Answer.{result_text, answer_text}
-use Rattle.printer_writing.specs.Page.{Fits}
+use Rattle.printer_writing.specs.Wrote.{Room}
 
 -- d+1 numbers for each cell of an n by m matrix
 pub record MatrixToWrite (n m d : ℕ) (r : List ℕ) : Type 0 where
@@ -13,11 +12,11 @@ pub record MatrixToWrite (n m d : ℕ) (r : List ℕ) : Type 0 where
   pub places : n * m * (d + 1) ≤ length r
 
 -- and room for their lines
-pub record ResultAsked (page : ArrayVec ℕ) (n m d : ℕ) (r : List ℕ) : Type 0 where
+pub record ResultAsked (out : List ℕ) (at n m d : ℕ) (r : List ℕ) : Type 0 where
   pub matrix : MatrixToWrite n m d r
-  pub room : Fits page (result_text n m d r)
+  pub room : Room out at (result_text n m d r)
 
 -- and for a whole answer
-pub record AnswerAsked (page : ArrayVec ℕ) (rank steps n m d : ℕ) (r det : List ℕ) : Type 0 where
+pub record AnswerAsked (out : List ℕ) (rank steps n m d : ℕ) (r det : List ℕ) : Type 0 where
   pub matrix : MatrixToWrite n m d r
-  pub room : Fits page (answer_text rank steps n m d r det)
+  pub room : Room out 0 (answer_text rank steps n m d r det)

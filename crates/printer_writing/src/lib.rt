@@ -1,22 +1,15 @@
-// The printer's texts. Each function puts its text behind what stands on a page.
+// Writing at an index of lent room. Each function returns the index after what it wrote. Of a buffer of any length, so by index: a page
+// in place has a fixed size, and a struct of a lent buffer would ask a clause in every contract, that it still lends what it lent.
 #![tactic(auto)]
 
 ghost use Rattle.std.specs.Prelude.{◌≡◌, [], ◌∷◌, ◌++◌};
-ghost use Rattle.arrayvec.specs.ArrayVec.{Extends};
 ghost use Rattle.printer_format.specs.Number.{decimal};
 ghost use Rattle.printer_format.specs.Line.{mark, row, line};
 ghost use Rattle.printer_format.specs.Answer.{refusal_text, counts_text, result_text, determinant_text, answer_text};
-ghost use Rattle.printer_writing.specs.Page.{Fits};
+ghost use Rattle.printer_writing.specs.Wrote.{Wrote, Room};
 ghost use Rattle.printer_writing.specs.Asked.{ResultAsked, AnswerAsked};
 
-use arrayvec::ArrayVec;
 use printer_format::keys;
-
-// Room for every answer.
-pub const OUTPUT: usize = 27928;
-
-// What is written so far.
-pub type Page = ArrayVec<u8, OUTPUT>;
 
 // What is printed where nothing is refused: the counts, and R with d+1 numbers for each cell of an n by m matrix. The determinant is
 // not looked at where n and m differ. n, m and d stand one by one: the crates of the text know no call (crates.txt).
@@ -31,108 +24,125 @@ pub struct Answer<'a> {
     pub det: &'a [u16],
 }
 
-fn put_bytes(page: &mut Page, bytes: &[u8])
-    requires { Fits page.old bytes.now }
-    ensures { Extends page.old bytes.now page.new }
+fn put_byte(out: &mut [u8], at: usize, byte: u8) -> usize
+    requires { Room out.old at (byte ∷ []) }
+    ensures { Wrote out.old at (byte ∷ []) result out.new }
 {
-    // What fits is not turned down.
-    let _ = page.try_extend_from_slice(bytes);
+    out[at] = byte;
+    at + 1
+}
+
+fn put_bytes(out: &mut [u8], at: usize, bytes: &[u8]) -> usize
+    requires { Room out.old at bytes.now }
+    ensures { Wrote out.old at bytes.now result out.new }
+{
+    for k in 0..bytes.len() {
+        out[at + k] = bytes[k];
+    }
+    at + bytes.len()
 }
 
 // A number in decimal: the last digit comes after those of a tenth of it. By hand: its text is defined by `decimal` of printer_format,
 // and a proof that itoa's or std's text is the same would be longer than these lines.
-fn put_number(page: &mut Page, value: usize)
-    requires { Fits page.old (decimal value) }
-    ensures { Extends page.old (decimal value) page.new }
+fn put_number(out: &mut [u8], at: usize, v: usize) -> usize
+    requires { Room out.old at (decimal v) }
+    ensures { Wrote out.old at (decimal v) result out.new }
 {
-    if 10 <= value {
-        put_number(page, value / 10);
+    if v < 10 {
+        return put_byte(out, at, keys::numeral(v));
     }
-    page.push(keys::numeral(value % 10));
+    let i = put_number(out, at, v / 10);
+    put_byte(out, i, keys::numeral(v % 10))
 }
 
 // A number and its mark.
-fn put_marked(page: &mut Page, value: usize, left: usize)
-    requires { Fits page.old (decimal value ++ mark left ∷ []) }
-    ensures { Extends page.old (decimal value ++ mark left ∷ []) page.new }
+fn put_marked(out: &mut [u8], at: usize, v: usize, left: usize) -> usize
+    requires { Room out.old at (decimal v ++ mark left ∷ []) }
+    ensures { Wrote out.old at (decimal v ++ mark left ∷ []) result out.new }
 {
-    put_number(page, value);
-    put_bytes(page, keys::mark_of(left));
+    let i = put_number(out, at, v);
+    put_bytes(out, i, keys::mark_of(left))
 }
 
 // Numbers, each with its mark.
-fn put_row(page: &mut Page, numbers: &[u16])
-    requires { Fits page.old (row numbers.now) }
-    ensures { Extends page.old (row numbers.now) page.new }
+fn put_row(out: &mut [u8], at: usize, numbers: &[u16]) -> usize
+    requires { Room out.old at (row numbers.now) }
+    ensures { Wrote out.old at (row numbers.now) result out.new }
 {
+    let mut i = at;
     for (k, value) in numbers.iter().enumerate() {
-        put_marked(page, usize::from(*value), numbers.len() - k - 1);
+        i = put_marked(out, i, usize::from(*value), numbers.len() - k - 1);
     }
+    i
 }
 
 // A line: its key, and then its numbers.
-fn put_line(page: &mut Page, key: &[u8], numbers: &[u16])
-    requires { Fits page.old (line key.now numbers.now) }
-    ensures { Extends page.old (line key.now numbers.now) page.new }
+fn put_line(out: &mut [u8], at: usize, key: &[u8], numbers: &[u16]) -> usize
+    requires { Room out.old at (line key.now numbers.now) }
+    ensures { Wrote out.old at (line key.now numbers.now) result out.new }
 {
-    put_bytes(page, key);
-    put_row(page, numbers);
+    let i = put_bytes(out, at, key);
+    put_row(out, i, numbers)
 }
 
 // A line with one number.
-#[tactic(auto, unfolding(printer_format::specs::Line::row))]
-fn put_field(page: &mut Page, key: &[u8], value: usize)
-    requires { Fits page.old (line key.now (value ∷ [])) }
-    ensures { Extends page.old (line key.now (value ∷ [])) page.new }
+fn put_field(out: &mut [u8], at: usize, key: &[u8], value: usize) -> usize
+    requires { Room out.old at (line key.now (value ∷ [])) }
+    ensures { Wrote out.old at (line key.now (value ∷ [])) result out.new }
 {
-    put_bytes(page, key);
-    put_marked(page, value, 0);
+    let i = put_bytes(out, at, key);
+    put_marked(out, i, value, 0)
 }
 
 // The lines of the result, one for each cell. n, m and d come one by one, as in `Answer`.
-fn put_result(page: &mut Page, n: usize, m: usize, d: usize, r: &[u16])
-    requires { ResultAsked page.old n m d r.now }
-    ensures { Extends page.old (result_text n m d r.now) page.new }
+fn put_result(out: &mut [u8], at: usize, n: usize, m: usize, d: usize, r: &[u16]) -> usize
+    requires { ResultAsked out.old at n m d r.now }
+    ensures { Wrote out.old at (result_text n m d r.now) result out.new }
 {
     let width = d + 1;
-    for (c, cell) in r[..n * m * width].chunks(width).enumerate() {
-        put_line(page, &keys::key_of_cell(keys::RESULT, m, c), cell);
+    let mut i = at;
+    for c in 0..n * m {
+        let key = keys::key_of_cell(keys::RESULT, m, c);
+        let a = c * width;
+        i = put_line(out, i, &key, &r[a..a + width]);
     }
+    i
 }
 
 // "A refusal prints two lines and nothing else."
-pub fn put_refusal(page: &mut Page, number: usize, place: usize)
-    requires { Fits page.old (refusal_text number place) }
-    ensures { Extends page.old (refusal_text number place) page.new }
+pub fn put_refusal(out: &mut [u8], number: usize, place: usize) -> usize
+    requires { Room out.old 0 (refusal_text number place) }
+    ensures { Wrote out.old 0 (refusal_text number place) result out.new }
 {
-    put_field(page, keys::ANSWER, number);
-    put_field(page, keys::PLACE, place);
+    let i = put_field(out, 0, keys::ANSWER, number);
+    put_field(out, i, keys::PLACE, place)
 }
 
 // The lines before those of the result.
-fn put_counts(page: &mut Page, rank: usize, steps: usize)
-    requires { Fits page.old (counts_text rank steps) }
-    ensures { Extends page.old (counts_text rank steps) page.new }
+fn put_counts(out: &mut [u8], rank: usize, steps: usize) -> usize
+    requires { Room out.old 0 (counts_text rank steps) }
+    ensures { Wrote out.old 0 (counts_text rank steps) result out.new }
 {
-    put_field(page, keys::ANSWER, 0);
-    put_field(page, keys::RANK, rank);
-    put_field(page, keys::STEPS, steps);
+    let i = put_field(out, 0, keys::ANSWER, 0);
+    let j = put_field(out, i, keys::RANK, rank);
+    put_field(out, j, keys::STEPS, steps)
 }
 
 // "`det=` stands only where n equals m."
-fn put_determinant(page: &mut Page, n: usize, m: usize, det: &[u16])
-    requires { Fits page.old (determinant_text n m det.now) }
-    ensures { Extends page.old (determinant_text n m det.now) page.new }
+fn put_determinant(out: &mut [u8], at: usize, n: usize, m: usize, det: &[u16]) -> usize
+    requires { Room out.old at (determinant_text n m det.now) }
+    ensures { Wrote out.old at (determinant_text n m det.now) result out.new }
 {
-    if n == m {
-        put_line(page, keys::DETERMINANT, det);
+    if n != m {
+        return at;
     }
+    put_line(out, at, keys::DETERMINANT, det)
 }
 
 // The lines of an answer where nothing is refused.
-pub fn put_answer(page: &mut Page, answer: &Answer)
-    requires { AnswerAsked page.old answer.now.rank answer.now.steps answer.now.n answer.now.m answer.now.d answer.now.r.now answer.now.det.now }
-    ensures { Extends page.old (answer_text answer.now.rank answer.now.steps answer.now.n answer.now.m answer.now.d answer.now.r.now answer.now.det.now) page.new }
+pub fn put_answer(out: &mut [u8], answer: &Answer) -> usize
+    requires { AnswerAsked out.old answer.now.rank answer.now.steps answer.now.n answer.now.m answer.now.d answer.now.r.now answer.now.det.now }
+    ensures { Wrote out.old 0 (answer_text answer.now.rank answer.now.steps answer.now.n answer.now.m answer.now.d answer.now.r.now answer.now.det.now) result out.new }
 {
     let Answer {
         rank,
@@ -143,7 +153,7 @@ pub fn put_answer(page: &mut Page, answer: &Answer)
         r,
         det,
     } = *answer;
-    put_counts(page, rank, steps);
-    put_result(page, n, m, d, r);
-    put_determinant(page, n, m, det);
+    let i = put_counts(out, rank, steps);
+    let j = put_result(out, i, n, m, d, r);
+    put_determinant(out, j, n, m, det)
 }

@@ -1,7 +1,7 @@
-use Rattle.std.proofs.Common.{◌≡◌, ◌+◌, ◌*◌, length, ◌∙◌, arith, length-take-le}
+use Rattle.std.proofs.Common.{refl, ◌≡◌, ◌+◌, ◌*◌, length, ◌∙◌, arith, length-take-le}
 use Rattle.printer_format.proofs.Room.{Answerable, answer-length}
 use Rattle.matrix_promises.specs.Determinant.{IsDeterminant}
-use Rattle.printer_library.proofs.Answers.{determinant-few, determined, result-answerable}
+use Rattle.printer_library.proofs.Answers.{determinant-few, determined, result-answerable, output}
 use Rattle.printer_library.proofs.answer_reduced.Goals as goal
 use Rattle.printer_library.proofs.answer_reduced.Goals.{After-determinant}
 
@@ -28,16 +28,18 @@ put_answer-requires c =
         degree = written.degree;
         places = written.result-size;
       };
-      room = rw c.new-page.ensures (answer-length _ _ _ _ _ _ _ written);
+      room = record { fits = omega (arith, answer-length _ _ _ _ _ _ _ written) };
     }
 
 pub returns : goal.returns
-returns c = record {
-  r = _;
-  rank = _;
-  count = _;
-  reduced = c.requires.reduced;
-  det = c.determinant.new.r;
-  determinant = found (goal.at.returns c).After-determinant;
-  is = rw c.new-page.ensures at c.put_answer.ensures;
-}
+returns c =
+    let after = (goal.at.returns c).After-determinant in
+    output (record {
+      r = _;
+      rank = _;
+      count = _;
+      reduced = c.requires.reduced;
+      det = c.determinant.new.r;
+      determinant = found after;
+      is = refl;
+    }) (answer-length _ _ _ _ _ _ _ (answerable after)) (omega arith) c.put_answer.ensures

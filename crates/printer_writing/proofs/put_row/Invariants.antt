@@ -1,8 +1,8 @@
--- The numbers that are left make what is left of the row.
-use Rattle.std.proofs.Common.{◌++◌, drop}
+-- What is left of the row is what the numbers that are left make.
+use lib.ListN.{drop}
 use Rattle.printer_format.specs.Line.{row}
-use Rattle.printer_writing.proofs.Texts.{Left}
+use Rattle.printer_writing.proofs.Writing.{Begun}
 use Rattle.printer_writing.proofs.put_row.Given as goal
 
 abbrev pub invariant-loop-k : goal.invariant-loop-k
-invariant-loop-k l = Left l.page.items (row (drop l.k l.numbers)) (l.initial.page.items ++ row l.numbers)
+invariant-loop-k l = Begun l.initial.out l.at (row l.numbers) (row (drop l.k l.numbers)) l.out l.i
