@@ -10,10 +10,6 @@ use lib.Seq.{drop-drop, drop-cons}
 use Rattle.printer_format.specs.Number.{decimal}
 use Rattle.printer_format.specs.Line.{mark, row, line, lines}
 
--- bytes
-pub byte_next : (w : List ℕ) (k : ℕ) → k < length w → drop k w ≡ (get_or w k 0 ∷ []) ++ drop (k + 1) w
-byte_next w k h = rw (drop-cons w k 0 h, add-one)
-
 -- numbers with their marks
 module _ (l : List ℕ) (k : ℕ) where
   pub row_next : k < length l → row (drop k l) ≡ (decimal (get_or l k 0) ++ (mark (length l - k - 1) ∷ [])) ++ row (drop (k + 1) l)

@@ -69,9 +69,6 @@ module _ {l₀ : List ℕ} {a : ℕ} {text : List ℕ} where
       wrote = wrote_then r.wrote p;
     }
 
-    pub begun-length : length l ≡ length l₀
-    begun-length = wrote-length r.wrote
-
     -- there is room for what is left
     pub begun-room : Room l₀ a text → Room l i rest
     begun-room room = next-room r.done rest (subst (Room l₀ a) r.splits room) r.wrote

@@ -36,31 +36,30 @@ fn put_bytes(out: &mut [u8], at: usize, bytes: &[u8]) -> usize
     requires { Room out.old at bytes.now }
     ensures { Wrote out.old at bytes.now result out.new }
 {
-    for k in 0..bytes.len() {
-        out[at + k] = bytes[k];
-    }
-    at + bytes.len()
+    let end = at + bytes.len();
+    out[at..end].copy_from_slice(bytes);
+    end
 }
 
 // A number in decimal: the last digit comes after those of a tenth of it. By hand: its text is defined by `decimal` of printer_format,
 // and a proof that itoa's or std's text is the same would be longer than these lines.
-fn put_number(out: &mut [u8], at: usize, v: usize) -> usize
-    requires { Room out.old at (decimal v) }
-    ensures { Wrote out.old at (decimal v) result out.new }
+fn put_number(out: &mut [u8], at: usize, value: usize) -> usize
+    requires { Room out.old at (decimal value) }
+    ensures { Wrote out.old at (decimal value) result out.new }
 {
-    if v < 10 {
-        return put_byte(out, at, keys::numeral(v));
+    if value < 10 {
+        return put_byte(out, at, keys::numeral(value));
     }
-    let i = put_number(out, at, v / 10);
-    put_byte(out, i, keys::numeral(v % 10))
+    let i = put_number(out, at, value / 10);
+    put_byte(out, i, keys::numeral(value % 10))
 }
 
 // A number and its mark.
-fn put_marked(out: &mut [u8], at: usize, v: usize, left: usize) -> usize
-    requires { Room out.old at (decimal v ++ mark left ∷ []) }
-    ensures { Wrote out.old at (decimal v ++ mark left ∷ []) result out.new }
+fn put_marked(out: &mut [u8], at: usize, value: usize, left: usize) -> usize
+    requires { Room out.old at (decimal value ++ mark left ∷ []) }
+    ensures { Wrote out.old at (decimal value ++ mark left ∷ []) result out.new }
 {
-    let i = put_number(out, at, v);
+    let i = put_number(out, at, value);
     put_bytes(out, i, keys::mark_of(left))
 }
 

@@ -5,19 +5,19 @@ use Rattle.printer_writing.proofs.Digits.{one-room, one-digit, tenth-room, last-
 use Rattle.printer_writing.proofs.+put_number.Goals as goal
 
 pub put_byte-requires : goal.put_byte-requires
-put_byte-requires t c = one-room c.args.v c.if-v-lt10.true c.numeral.ensures c.requires
+put_byte-requires t c = one-room c.args.value c.if-value-lt10.true c.numeral.ensures c.requires
 
-pub returns-then-v-lt10 : goal.returns-then-v-lt10
-returns-then-v-lt10 t c = one-digit _ c.if-v-lt10.true c.numeral.ensures c.put_byte.ensures
+pub returns-then-value-lt10 : goal.returns-then-value-lt10
+returns-then-value-lt10 t c = one-digit _ c.if-value-lt10.true c.numeral.ensures c.put_byte.ensures
 
 pub put_number-i-requires : goal.put_number-i-requires
 put_number-i-requires t c = (
-  omega (arith, tenth c.args.v c.if-v-lt10.false, c.decreases),
-  tenth-room c.args.v c.if-v-lt10.false c.requires,
+  omega (arith, tenth c.args.value c.if-value-lt10.false, c.decreases),
+  tenth-room c.args.value c.if-value-lt10.false c.requires,
 )
 
 pub put_byte-requires-2 : goal.put_byte-requires-2
-put_byte-requires-2 t c = last-room c.args.v c.if-v-lt10.false c.put_number-i.ensures c.numeral-2.ensures c.requires
+put_byte-requires-2 t c = last-room c.args.value c.if-value-lt10.false c.put_number-i.ensures c.numeral-2.ensures c.requires
 
 pub returns : goal.returns
-returns t c = last-digit _ c.if-v-lt10.false c.put_number-i.ensures c.numeral-2.ensures c.put_byte-2.ensures
+returns t c = last-digit _ c.if-value-lt10.false c.put_number-i.ensures c.numeral-2.ensures c.put_byte-2.ensures

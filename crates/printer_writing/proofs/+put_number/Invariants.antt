@@ -2,4 +2,4 @@
 use Rattle.printer_writing.proofs.+put_number.Given as goal
 
 abbrev pub decreases-put_number : goal.decreases-put_number
-decreases-put_number l = l.v
+decreases-put_number l = l.value
