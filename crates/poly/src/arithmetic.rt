@@ -73,16 +73,19 @@ pub fn product(a: &[u16], b: &[u16], out: &mut [u16], md: Modulus)
 pub fn scale(a: &mut [u16], c: Residue, md: Modulus)
     ensures { a.new ≡ scaled_by md.p c.0 a.old }
 {
-    for x in a.iter_mut() {
-        *x = u16::from(c.product(Residue::from(*x), md));
+    for i in 0..a.len() {
+        a[i] = u16::from(c.product(Residue::from(a[i]), md));
     }
 }
 
+// By a loop: copy_from_slice asks for `memmove`, which a program in C would have to bring for the libraries made of this.
 pub fn copy(from: &[u16], to: &mut [u16])
     requires { length from.now ≡ length to.old }
     ensures { to.new ≡ from.now }
 {
-    to.copy_from_slice(from);
+    for i in 0..to.len() {
+        to[i] = from[i];
+    }
 }
 
 pub fn clear(a: &mut [u16])

@@ -1,5 +1,6 @@
 // Polynomials in slices, constant term first, all places present: what is read off them.
-ghost use Rattle.std.specs.Prelude.{◌≡◌, ◌↔◌, ℕ, ◌<◌, ◌≤◌, length, get_or, IsTrue};
+ghost use Rattle.std.specs.Prelude.{◌≡◌, ◌↔◌, ℕ, ◌<◌, ◌≤◌, length, get_or, IsTrue, Some};
+ghost use Rattle.std.specs.Fmt.{signed_decimal};
 ghost use Rattle.poly.specs.Polynomial.{degree_of, used_places, leading_of, SamePolynomial};
 
 use crate::residues::Residue;
@@ -41,7 +42,10 @@ pub fn used(a: &[u16]) -> usize
     }
 }
 
+// Its number in decimal, -1 for zero.
 impl fmt::Display for Degree {
+    ghost output = { λ degree. Some (signed_decimal degree.0) };
+
     fn fmt<W: fmt::Write>(&self, f: &mut fmt::Formatter<W>) -> fmt::Result {
         write!(f, "{}", self.0)
     }

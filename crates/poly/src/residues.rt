@@ -1,5 +1,6 @@
 // Residues modulo p. The modulus is a 32-bit number, so that 65,537 can be refused and not cut.
-ghost use Rattle.std.specs.Prelude.{◌≡◌, ◌↔◌, ◌+◌, ◌*◌, ◌-◌, ◌%◌, ◌<◌, IsTrue};
+ghost use Rattle.std.specs.Prelude.{◌≡◌, ◌↔◌, ◌+◌, ◌*◌, ◌-◌, ◌%◌, ◌<◌, IsTrue, Some};
+ghost use Rattle.std.specs.Fmt.{decimal};
 ghost use Rattle.theory_algebra.specs.Prime.{Prime};
 ghost use Rattle.poly.specs.residues.Modulus.{Ready, Residues₂, Inverse};
 ghost use Rattle.theory_algebra.specs.Modulus.{Accepted, InRange};
@@ -73,7 +74,10 @@ impl From<Residue> for u16 {
     }
 }
 
+// Its number in decimal.
 impl fmt::Display for Residue {
+    ghost output = { λ residue. Some (decimal residue.0) };
+
     fn fmt<W: fmt::Write>(&self, f: &mut fmt::Formatter<W>) -> fmt::Result {
         write!(f, "{}", self.0)
     }

@@ -7,6 +7,7 @@ use native.Mathlib.Decide.{dec_le}
 use native.Mathlib.Numerals.{add-one}
 use native.Mathlib.Omega.{arith}
 use lib.ListN.{length, get_or, set, length-set}
+use lib.Seq.{ext_get_or}
 use Rattle.theory_lists.specs.Change.{imap, upto}
 
 pub length-imap : (f : ℕ → ℕ → ℕ) (l : List ℕ) → length (imap f l) ≡ length l
@@ -31,6 +32,11 @@ get_or-imap-every f l i h = elim (dec_le (length l) i) [
   | yes past ↦ get_or-past (imap f l) i (rw length-imap past) ∙ sym (h past) ∙ ap (f i) (sym (get_or-past l i past))
   | no before ↦ get_or-imap f l i (omega arith)
 ]
+
+-- a list whose every element is that of another
+pub imap-copy : (from to : List ℕ) → length from ≡ length to → imap (λ i x. get_or from i 0) to ≡ from
+imap-copy from to same =
+    ext_get_or 0 _ from (length-imap _ to ∙ sym same) (λ i h. get_or-imap _ to i (rw length-imap at h))
 
 upto_all : (n : ℕ) (f : ℕ → ℕ → ℕ) (l : List ℕ) → length l ≤ n → upto n f l ≡ imap f l
 unfolding imap upto
