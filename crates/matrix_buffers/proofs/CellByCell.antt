@@ -79,3 +79,20 @@ module _ {w i : ℕ} {at new : ℕ → ℕ → ℕ} {b₀ b : List ℕ} (apart :
         (λ from-i. let here : j ≡ i = omega arith in rw here (cell.written 0 t (omega arith) lt));
     others = λ x elsewhere. cell.others x (λ _ t _ lt. elsewhere i t (omega arith) lt) ∙ now.others x (λ j t lj lt. elsewhere j t (omega arith) lt);
   }
+
+-- where a loop stands that writes `count` cells, one after the other: it has come to i, and the buffer is now b
+pub record Writing (w count : ℕ) (at new : ℕ → ℕ → ℕ) (b₀ b : List ℕ) (i : ℕ) : Type 0 where
+  pub reached : i ≤ count
+  pub done : CellsWritten w i at new b₀ b
+
+pub writing_start : {w count : ℕ} {at new : ℕ → ℕ → ℕ} {b : List ℕ} → Writing w count at new b b 0
+writing_start = record { reached = omega arith; done = none_written }
+
+-- one turn: what the cell's operation writes, by the buffer as it is now, is `new` of the buffer as it was before the loop
+pub writing-turn : {w count i : ℕ} {at new : ℕ → ℕ → ℕ} {found : ℕ → ℕ} {b₀ b b' : List ℕ} → Writing w count at new b₀ b i → i < count
+    → ((j t u : ℕ) → j < i → t < w → u < w → at j t ≢ at i u) → ((t : ℕ) → t < w → found t ≡ new i t)
+    → CellsWritten w 1 (λ _. at i) (λ _. found) b b' → Writing w count at new b₀ b' (i + 1)
+writing-turn now li apart same cell = record {
+  reached = omega arith;
+  done = next-written apart now.done (written_as (λ _ t _ lt. same t lt) cell);
+}

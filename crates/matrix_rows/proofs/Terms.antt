@@ -15,7 +15,7 @@ use Rattle.poly.specs.arithmetic.Operations.{plus_term}
 use Rattle.poly.proofs.Ending.{ends-height}
 use Rattle.matrix_buffers.specs.Written.{CellsWritten}
 use Rattle.matrix_buffers.specs.Added.{CellAdded}
-use Rattle.matrix_buffers.proofs.CellByCell.{part-written, next-written, written_as}
+use Rattle.matrix_buffers.proofs.CellByCell.{part-written, writing-turn}
 use Rattle.matrix_rows.specs.Asked.{CellPair}
 
 -- one place is written, as a cell of one place
@@ -68,11 +68,12 @@ module _ {p c e w top to from n : ℕ} {b₀ : List ℕ} (pre : CellPair p c e w
     term-turn l-is =
         let kept : get_or (part to w b) (e + i) 0 ≡ get_or b₀ (to + (e + i)) 0 =
         get_or-part to w b fits (e + i) (omega (arith, few)) ∙ done.others _ (λ j t lj lt same. omega arith) in
+        let cell =
+        part-written to w b _ fits (λ _ t _ lt. omega (arith, few))
+        (term-written p c y (e + i) (part to w b) (omega (arith, length_part to w b fits, few))) in
         rw (l-is, add-sub_cancel_left to w)
-        (next-written (λ j t u lj lt lu same. omega arith) done
-        (written_as (λ _ t _ lt. let zero : t ≡ 0 = omega arith in rw (zero, add-zero) (ap₂ (λ (x y : ℕ). (x + c * y) % p) kept source))
-        (part-written to w b _ fits (λ _ t _ lt. omega (arith, few))
-        (term-written p c _ (e + i) (part to w b) (omega (arith, length_part to w b fits, few))))))
+        (writing-turn {count = n} (record { reached = omega arith; done = done }) li (λ j t u lj lt lu same. omega arith)
+        (λ t lt. let zero : t ≡ 0 = omega arith in rw (zero, add-zero) (ap₂ (λ (x y : ℕ). (x + c * y) % p) kept source)) cell).done
 
   -- a place that got no term is its own remainder
   pub terms-end : {b : List ℕ} → Adding p c e to from b₀ b n → CellAdded p c e w to from b₀ b₀ b

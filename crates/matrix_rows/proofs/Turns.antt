@@ -10,7 +10,7 @@ use Rattle.theory_lists.specs.Where.{where_true}
 use Rattle.theory_lists.proofs.Place.{spaced-apart}
 use Rattle.matrix_buffers.specs.Added.{CellsAdded, CellAdded}
 use Rattle.matrix_buffers.specs.Scaled.{CellsScaled, CellScaled}
-use Rattle.matrix_buffers.proofs.CellByCell.{next-kept, next-written, written_as}
+use Rattle.matrix_buffers.proofs.CellByCell.{next-kept, writing-turn}
 use Rattle.matrix_rows.specs.Cells.{place}
 use Rattle.matrix_rows.specs.Asked.{InBuffer, Pairs, TwoParts, CellPair, CellPairs}
 use Rattle.matrix_rows.specs.declared.cells.Cells.{Cells}
@@ -22,7 +22,9 @@ module _ (p c : ℕ) {cells : Cells} {b₀ : List ℕ} (asked : InBuffer cells.w
   apart = spaced-apart cells.first asked.distance i
 
   pub scale-turn : {b' : List ℕ} → CellScaled p c cells.w (cells.first + i * cells.stride) b b' → CellsScaled p c cells.w (i + 1) (place cells) b₀ b'
-  scale-turn cell = next-written apart done (written_as (λ _ t _ lt. ap (λ (y : ℕ). c * y % p) (next-kept apart done t lt)) cell)
+  scale-turn cell =
+      (writing-turn {count = i + 1} (record { reached = omega arith; done = done }) (omega arith) apart
+      (λ t lt. ap (λ (y : ℕ). c * y % p) (next-kept apart done t lt)) cell).done
 
 -- the cells of pair i are two parts of the buffer as it is now
 pub parts : {one other : Cells} {b₀ b : List ℕ} → Pairs one other b₀ → length b ≡ length b₀ → {i : ℕ} → i < one.count
@@ -60,5 +62,6 @@ module _ {p c e top : ℕ} {to from : Cells} {b₀ : List ℕ} (asked : CellPair
 
   pub add-turn : {b' : List ℕ} → CellAdded p c e to.w (to.first + i * to.stride) (from.first + i * from.stride) b b b'
       → CellsAdded p c e to.w (i + 1) (place to) (place from) b₀ b₀ b'
-  add-turn cell = next-written away done (written_as (λ _ t _ lt. ap₂ (λ (x y : ℕ). (x + c * where_true (leb e t) y) % p)
-      (target t lt) (source (t - e) (omega arith))) cell)
+  add-turn cell =
+      (writing-turn {count = to.count} (record { reached = omega arith; done = done }) li away
+      (λ t lt. ap₂ (λ (x y : ℕ). (x + c * where_true (leb e t) y) % p) (target t lt) (source (t - e) (omega arith))) cell).done

@@ -6,13 +6,18 @@ ghost use Rattle.matrix_rows.specs.Asked.{Pairs, TwoParts, TwoRows, TwoColumns};
 use crate::cells::Cells;
 use matrix_buffers::Shape;
 
-// Two cells of one buffer, place by place: they cannot both be lent at once.
+// Two cells of one buffer, place by place: they cannot both be lent at once. By hand, since `swap` asks at each place which index is the
+// greater one.
 fn exchange_cell(buf: &mut [u16], one: usize, other: usize, w: usize)
     requires { TwoParts w one other buf.old }
     ensures { CellExchanged w one other buf.old buf.new }
 {
     for t in 0..w {
-        buf.swap(one + t, other + t);
+        let x = one + t;
+        let y = other + t;
+        let kept = buf[x];
+        buf[x] = buf[y];
+        buf[y] = kept;
     }
 }
 
