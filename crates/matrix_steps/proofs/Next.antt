@@ -2,8 +2,8 @@
 use mathlib.Core.Path.{◌≡◌, refl, ◌∙◌}
 use mathlib.Core.List.{List}
 use Rattle.std.specs.Prelude.{Some, None}
-use Prim.Native.Nat.{ℕ, ◌≤◌}
-use lib.ListN.{length, get_or, take}
+use Prim.Native.Nat.{ℕ}
+use lib.ListN.{get_or, take}
 use Rattle.std.proofs.lemmas.List.{get_or-take}
 use Rattle.theory_reduction.specs.Pair.{NoPair, StepRows}
 use Rattle.theory_reduction.proofs.Pair.{pair-rows}
@@ -21,10 +21,10 @@ pub record StepOf (n m : ℕ) (v : ℕ → ℕ) (pivots : List Pivot) (step : St
   pub high_is : step.high ≡ get_or pivots step.pair.l zero_row
   pub low_is : step.low ≡ get_or pivots step.pair.k zero_row
 
-module _ {n m : ℕ} {v : ℕ → ℕ} {pivots : List Pivot} (fits : n ≤ length pivots) (found : Pivots n m v pivots) where
+module _ {n m : ℕ} {v : ℕ → ℕ} {pivots : List Pivot} (found : Pivots n m v pivots) where
   pub step-of : {step : Step} → StepOn (take n pivots) step → StepOf n m v pivots step
   step-of {step} on =
-      let next = next-is fits found (Some step.pair) (Some step.pair) on.next refl in
+      let next = next-is found (Some step.pair) (Some step.pair) on.next refl in
       let rows = pair-rows next.0 next.1 in
       record {
         next = next;
@@ -34,4 +34,4 @@ module _ {n m : ℕ} {v : ℕ → ℕ} {pivots : List Pivot} (fits : n ≤ lengt
       }
 
   pub no-step : IsNext (take n pivots) None → NoPair n m v
-  no-step none = next-is fits found None None none refl
+  no-step none = next-is found None None none refl

@@ -2,7 +2,7 @@ use borrow.Author.Rules.{rules}
 use native.Mathlib.Omega.{arith}
 use Rattle.matrix_pivots.specs.Pivot.{values_of}
 use Rattle.matrix_steps.proofs.Next.{StepOf, step-of, no-step}
-use Rattle.matrix_reduction.proofs.Loop.{count_fits, next-asked, rows_there}
+use Rattle.matrix_reduction.proofs.Loop.{count_fits, next-asked}
 use Rattle.matrix_reduction.proofs.Transforms.{running-start, running-stop}
 use Rattle.matrix_reduction.proofs.Transforms.{reach-fits, advance-asked, lower, running-falls, running-on}
 use Rattle.matrix_reduction.proofs.run.Goals as goal
@@ -12,7 +12,7 @@ use Rattle.matrix_reduction.proofs.run.Goals.{In-Some}
 on : (c : In-Some) → let s = c.args.shape in StepOf s.n s.m (values_of s.m s.w c.loop-step.r) c.loop-step.pivots c.in-Some.step
 on c =
     let going = c.loop-step.invariant.going in
-    step-of (rows_there c.requires.input going) going.found c.in-Some.ensures
+    step-of going.found c.in-Some.ensures
 
 pub loop-step-init : goal.loop-step-init
 loop-step-init c = search (rules, running-start)
@@ -61,5 +61,5 @@ loop-step-preserved c =
 pub returns : goal.returns
 returns c =
     let going = c.loop-step.invariant.going in
-    running-stop c.requires c.loop-step.invariant (no-step (rows_there c.requires.input going) going.found c.in_default.ensures)
+    running-stop c.requires c.loop-step.invariant (no-step going.found c.in_default.ensures)
     c.rank-rank.ensures

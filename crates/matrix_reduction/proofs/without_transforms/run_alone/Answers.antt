@@ -2,7 +2,7 @@ use borrow.Author.Rules.{rules}
 use native.Mathlib.Omega.{arith}
 use Rattle.matrix_pivots.specs.Pivot.{values_of}
 use Rattle.matrix_steps.proofs.Next.{StepOf, step-of, no-step}
-use Rattle.matrix_reduction.proofs.Loop.{count_fits, next-asked, rows_there, lower-asked, falls, going_on}
+use Rattle.matrix_reduction.proofs.Loop.{count_fits, next-asked, lower-asked, falls, going_on}
 use Rattle.matrix_reduction.proofs.Alone.{alone-start, alone-last}
 use Rattle.matrix_reduction.proofs.without_transforms.run_alone.Goals as goal
 use Rattle.matrix_reduction.proofs.without_transforms.run_alone.Goals.{In-Some}
@@ -11,7 +11,7 @@ use Rattle.matrix_reduction.proofs.without_transforms.run_alone.Goals.{In-Some}
 on : (c : In-Some) → let s = c.args.shape in StepOf s.n s.m (values_of s.m s.w c.loop-step.r) c.loop-step.pivots c.in-Some.step
 on c =
     let going = c.loop-step.invariant in
-    step-of (rows_there c.requires going) going.found c.in-Some.ensures
+    step-of going.found c.in-Some.ensures
 
 pub loop-step-init : goal.loop-step-init
 loop-step-init c = search (rules, alone-start)
@@ -37,4 +37,4 @@ loop-step-preserved c =
 pub returns : goal.returns
 returns c =
     let going = c.loop-step.invariant in
-    alone-last c.requires going (no-step (rows_there c.requires going) going.found c.in_default.ensures) c.rank-rank.ensures
+    alone-last c.requires going (no-step going.found c.in_default.ensures) c.rank-rank.ensures
