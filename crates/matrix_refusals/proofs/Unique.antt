@@ -55,7 +55,7 @@ verdict-unique table decided x y f g =
 
 -- ## The checks: two answers that the promise allows are equal
 
--- of `answer_numbers`
+-- of `check_numbers`
 pub numbers-checked-unique : (p n m d : ℕ) (x y : Result Unit Refusal) → Verdict (number_rules p n m d []) x
     → Verdict (number_rules p n m d []) y → x ≡ y
 numbers-checked-unique p n m d = verdict-unique (number_rules p n m d []) (with-numbers [] tt)

@@ -12,6 +12,11 @@ use poly::Modulus;
 fn first_high(a: &[u16], p: u32) -> Option<usize>
     ensures { MatchOption result (FirstHigh p a.now (length a.now)) (λ i. (i < length a.now) × FirstHigh p a.now i) }
 {
+    // Most calls have none, and the greatest of all is found by vectors, without an exit on the way.
+    let greatest: u16 = a.iter().fold(0, |greatest, x| greatest.max(*x));
+    if u32::from(greatest) < p {
+        return None;
+    }
     a.iter().position(|x| p <= u32::from(*x))
 }
 
