@@ -1,4 +1,5 @@
 // The last move to the Popov form: monic pivots.
+ghost use Rattle.std.specs.Prelude.{◌≡◌, length};
 ghost use Rattle.matrix_popov.specs.monic.Monic.{RowToDivide, RowDivided, MonicAsked, MadeMonic};
 
 use matrix_buffers::Shape;
@@ -40,7 +41,8 @@ pub(crate) fn make_monic(
     pivots: &[Pivot],
     md: Modulus,
 )
-    requires { MonicAsked md.p shape.n shape.m shape.w r.old u.old v.old pivots.now }
+    requires asked { MonicAsked md.p shape.n shape.m shape.w r.old u.old v.old pivots.now }
+    requires pivots_size { length pivots.now ≡ shape.n }
     ensures { MadeMonic md.p shape.n shape.m shape.w r.old u.old v.old r.new u.new v.new }
 {
     for (i, pivot) in pivots.iter().enumerate() {

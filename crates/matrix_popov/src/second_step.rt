@@ -1,5 +1,5 @@
 // The steps of the second kind on the buffers: "go through the non-zero rows from the top."
-ghost use Rattle.std.specs.Prelude.{◌+◌, ◌-◌, ◌<◌, SomeIff};
+ghost use Rattle.std.specs.Prelude.{◌≡◌, ◌+◌, ◌-◌, ◌<◌, length, SomeIff};
 ghost use Rattle.matrix_steps.specs.multiple.Asked.{CoefficientAsked};
 ghost use Rattle.matrix_popov.specs.second_step.Excess.{excess_of, excess_at, HighestAsked, IsHighest};
 ghost use Rattle.matrix_popov.specs.second_step.Removing.{TermAsked, Removes, RemoveAsked, SecondMove, RemovingAsked, ClearAsked, Cleared};
@@ -96,7 +96,8 @@ fn clear_row(
     k: usize,
     md: Modulus,
 ) -> u64
-    requires { ClearAsked md.p shape.n shape.m shape.w k r.old u.old v.old pivots.now }
+    requires asked { ClearAsked md.p shape.n shape.m shape.w k r.old u.old v.old pivots.now }
+    requires pivots_size { length pivots.now ≡ shape.n }
     ensures { Cleared md.p shape.n shape.m shape.w (k + 1) result pivots.now r.old u.old v.old r.new u.new v.new }
 {
     let mut count = 0;
@@ -121,7 +122,8 @@ pub(crate) fn remove_all(
     pivots: &[Pivot],
     md: Modulus,
 ) -> u64
-    requires { RemovingAsked md.p shape.n shape.m shape.w r.old u.old v.old pivots.now }
+    requires asked { RemovingAsked md.p shape.n shape.m shape.w r.old u.old v.old pivots.now }
+    requires pivots_size { length pivots.now ≡ shape.n }
     ensures { Cleared md.p shape.n shape.m shape.w shape.n result pivots.now r.old u.old v.old r.new u.new v.new }
 {
     let mut count = 0;

@@ -37,7 +37,6 @@ module _ {p n m w : ℕ} {r u v : List ℕ} {pivots : List Pivot} (asked : Remov
     removing-on pivots_are = record {
       prime = prime;
       bounds = bounds;
-      pivots_size = asked.pivots_size;
       pivots_are = pivots_are;
       rank = rank;
       A = A;
@@ -146,12 +145,12 @@ module _ {p n m w k : ℕ} {r u v : List ℕ} {pivots : List Pivot} (asked : Cle
     pub clearing-count : count ≤ length v
     clearing-count = count_most removing now.standing (λ c e q. now.onward n c e k_fits q)
 
-    pub highest-asked : HighestAsked m w k r' pivots
-    highest-asked =
+    pub highest-asked : length pivots ≡ n → HighestAsked m w k r' pivots
+    highest-asked pivots_size =
         let size = now.standing.holding.R.size in
         let first : k < rank = indexed-first bounds.columns x.pivots_are now.standing k k_fits k_some in
         record {
-          before = omega (arith, k_fits, removing.pivots_size);
+          before = omega (arith, k_fits, pivots_size);
           rows = λ i l.
               let pivot = leading-asked n m w bounds.columns r' size x.pivots_are i (omega (arith, k_fits))
               (first_some bounds.columns x.pivots_are now.standing i (omega arith)) in

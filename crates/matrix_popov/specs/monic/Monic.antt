@@ -1,5 +1,5 @@
 -- "Last, divide each non-zero row by its pivot's leading coefficient; zero rows stay.": what is asked, and what is left.
-use Rattle.std.specs.Prelude.{◌≡◌, List, ℕ, zero, suc, ◌*◌, ◌<◌, length}
+use Rattle.std.specs.Prelude.{◌≡◌, List, ℕ, zero, suc, ◌*◌, ◌<◌}
 use Rattle.theory_algebra.specs.Prime.{Prime}
 use Rattle.theory_algebra.specs.Residue.{Zp}
 use Rattle.theory_rings.specs.PrimeField.{zp_field}
@@ -43,7 +43,6 @@ pub record MonicAsked (p n m w : ℕ) (r u v : List ℕ) (pivots : List Pivot) :
   pub bounds : Bounds n m w
   pub t : Carried (Zp p)
   pub holding : Holding p n m w r u v t
-  pub pivots_size : length pivots ≡ n
   pub pivots_are : Pivots n m (values_of m w r) pivots
 
 -- what the buffers held is divided; U and V follow

@@ -1,5 +1,5 @@
 -- What the steps of the second kind ask on the buffers, and what they leave.
-use Rattle.std.specs.Prelude.{◌≡◌, List, ℕ, ◌+◌, ◌*◌, ◌-◌, ◌≤◌, ◌<◌, length}
+use Rattle.std.specs.Prelude.{◌≡◌, List, ℕ, ◌+◌, ◌*◌, ◌-◌, ◌≤◌, ◌<◌}
 use Rattle.theory_algebra.specs.Prime.{Prime}
 use Rattle.theory_algebra.specs.Residue.{Zp}
 use Rattle.theory_rings.specs.PrimeField.{zp_field}
@@ -58,7 +58,6 @@ pub record Standing (p : ℕ) (P : Prime p) (n m w rank : ℕ) (A : ℕ → Row 
 pub record RemovingAsked (p n m w : ℕ) (r u v : List ℕ) (pivots : List Pivot) : Type 0 where
   pub prime : Prime p
   pub bounds : Bounds n m w
-  pub pivots_size : length pivots ≡ n
   pub pivots_are : Pivots n m (values_of m w r) pivots
   pub rank : ℕ
   pub A : ℕ → Row (Zp p)

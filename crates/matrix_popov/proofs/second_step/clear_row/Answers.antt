@@ -4,29 +4,29 @@ use Rattle.matrix_popov.proofs.second_step.Clearing.{step-asked, clearing-more, 
 use Rattle.matrix_popov.proofs.second_step.clear_row.Goals as goal
 
 pub loop-x-init : goal.loop-x-init
-loop-x-init c = clearing-start c.requires
+loop-x-init c = clearing-start c.requires.asked
 
 pub highest-requires : goal.highest-requires
-highest-requires c = highest-asked c.requires c.loop-x.invariant
+highest-requires c = highest-asked c.requires.asked c.loop-x.invariant c.requires.pivots_size
 
 pub returns : goal.returns
 returns c =
-    clearing-end c.requires c.loop-x.invariant c.in_default.ensures
+    clearing-end c.requires.asked c.loop-x.invariant c.in_default.ensures
 
 pub remove-requires : goal.remove-requires
 remove-requires c =
-    step-asked c.requires c.loop-x.invariant c.in-Some.ensures
+    step-asked c.requires.asked c.loop-x.invariant c.in-Some.ensures
 
 pub overflow_add-count : goal.overflow_add-count
 overflow_add-count c =
-    omega (arith, clearing-count c.requires c.loop-x.invariant)
+    omega (arith, clearing-count c.requires.asked c.loop-x.invariant)
 
 pub loop-x-smaller : goal.loop-x-smaller
 loop-x-smaller c =
-    clearing-falls c.requires c.loop-x.invariant c.in-Some.ensures
+    clearing-falls c.requires.asked c.loop-x.invariant c.in-Some.ensures
     c.remove.ensures
 
 pub loop-x-preserved : goal.loop-x-preserved
 loop-x-preserved c =
-    clearing-more c.requires c.loop-x.invariant c.in-Some.ensures
+    clearing-more c.requires.asked c.loop-x.invariant c.in-Some.ensures
     c.remove.ensures
