@@ -170,11 +170,11 @@ module _ {p m w wide budget : ℕ} {r₀ column₀ r column : List ℕ} {pivots 
   )
 
   pub going-stop : IsNext (take (suc m) pivots) None → ColumnsReduced p m w wide budget r₀ column₀ r column pivots
-  going-stop none = record { pivots_are = pivots_are; none = no-step fits pivots_are none; by = now.by }
+  going-stop none = record { pivots_are = pivots_are; none = no-step pivots_are none; by = now.by }
 
   module _ {step : Step} (found : StepOn (take (suc m) pivots) step) where
     on : StepOf (suc m) m (values_of m w r) pivots step
-    on = step-of fits pivots_are found
+    on = step-of pivots_are found
 
     places : 0 < wide
     places = omega (arith, sizes.places, sizes.widened)

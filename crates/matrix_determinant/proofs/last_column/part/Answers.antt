@@ -17,7 +17,7 @@ slice_bounds-fill-end-in-loop-s c =
 pub loop-s-preserved : goal.loop-s-preserved
 loop-s-preserved c =
     let fits = (cells-fit c.requires c.loop-s.invariant (more (goal.at.loop-s-preserved c).In-loop-s)).1 in
-    let same = simp add-sub_cancel_left at rw c.row_left.ensures at c.copy_from_slice.ensures.after in
+    let same = simp add-sub_cancel_left at rw c.row_left.ensures at c.copy.ensures in
     simp add-sub_cancel_left (rw same (parting-turn c.requires c.fill.new.buf c.loop-s.invariant (more (goal.at.loop-s-preserved c).In-loop-s)
     (simp add-sub_cancel_left at c.fill.auto.buf ∙ length_part _ _ _ fits) (simp add-sub_cancel_left at rw c.row_left.ensures at c.fill.ensures)))
 
