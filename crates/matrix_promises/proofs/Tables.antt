@@ -72,6 +72,15 @@ in_order {p} {given = given} {wanted} {a} none told =
     let (residues, _) = past none (omega arith) after-lengths in
     record { numbers = numbers; lengths = lengths; residues = residues }
 
+-- the table of the determinant wants a square matrix too
+pub determinant-in-order : {p n m d : ℕ} {given a : List ℕ} {number place : ℕ} → number ≡ 0
+    → Told (determinant_table p n m d given a) number place → (n ≡ m) × InOrder p n m d given (determinant_sizes n m d) a
+determinant-in-order {p} {n} {m} {d} {given} {a} none told =
+    let further = length_rule given (determinant_sizes n m d) ∷ coefficient_rule p a ∷ [] in
+    let (numbers, after-numbers) = in-range (square_rule n m ∷ further) none told in
+    let (square, after-square) = past none (omega arith) after-numbers in
+    (square, in_order none (past-numbers further numbers after-square))
+
 -- ## A table allows one answer
 
 -- P holds of one number at most
