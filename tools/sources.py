@@ -5,7 +5,7 @@ A function is public if another crate can name it: it is `pub`, and stands in `l
 way, or is re-exported from such a place by `pub use`, itself or its type. Its public name is the one that another crate writes
 after the crate's: `Type::function`, `function` or `module::function`. A function of an impl of a trait stands under the name
 that the prover has for the impl, as `ResidueFromU16` for `impl From<u16> for Residue`; what a ghost member there says of the
-results counts as its `ensures`, and it is public if there is one.
+results counts as its `ensures`, and it is public whether or not there is one: who has the type can call it.
 """
 import re
 from functools import lru_cache
@@ -17,7 +17,7 @@ CRATES = TOP / "crates"
 
 FUNCTION = re.compile(r'(\s*)(pub |pub\(crate\) )?(?:extern "C" )?fn (\w+)')
 IMPL = re.compile(r"impl(?:<[^{]*?>)? (?:(\w.*) for )?(\w+)")
-MEMBER = re.compile(r"\s+ghost \w+ = (\{.*\});")
+MEMBER = re.compile(r"\s+ghost (\w+) = \{(.*)\};")
 CLAUSE = re.compile(r"(requires|ensures)(?: [\w-]+)? \{")
 
 
@@ -79,14 +79,14 @@ def owner_of(trait, kind):
 
 def functions_of(crate, file, folder=None):
     """The functions of a source. `folder` has it where it is not the crate's own, as the copy of an edit."""
-    owner, promise, first, start, head = "", "", None, None, []
+    owner, of_trait, promise, first, start, head = "", False, "", None, None, []
     for number, line in enumerate(((folder or CRATES / crate) / file).read_text().splitlines(), 1):
         if found := IMPL.match(line):
-            owner, promise = owner_of(*found.groups()), ""
+            owner, of_trait, promise = owner_of(*found.groups()), bool(found[1]), ""
         elif found := MEMBER.match(line):
-            promise = found[1]
+            promise = f"{{ {'f.new: ' if found[1] == 'output' else ''}{found[2].strip()} }}"  # `output` is what `fmt` writes to its f
         elif line == "}" and start is None:
-            owner, promise = "", ""
+            owner, of_trait, promise = "", False, ""
         if start is None and (found := FUNCTION.match(line)):
             indent, visible, name = found.groups()
             start, body, head = first or number, None, []
@@ -98,7 +98,7 @@ def functions_of(crate, file, folder=None):
         first = (first or number) if line.lstrip().startswith("#[") else None
         if start is not None and line == indent + "}":
             path = [*module_of(file), *([owner] if indent else []), name]
-            yield Function(crate, file, "::".join(path), visible == "pub " or bool(promise), head, start, body, number)
+            yield Function(crate, file, "::".join(path), visible == "pub " or of_trait, head, start, body, number)
             start = None
 
 
