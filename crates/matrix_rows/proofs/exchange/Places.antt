@@ -4,7 +4,7 @@ use mathlib.Core.Path.{◌≡◌, sym, ◌∙◌}
 use mathlib.Core.Logic.{◌≢◌}
 use mathlib.Core.List.{List}
 use Prim.Native.Nat.{ℕ, suc, ◌+◌, ◌*◌, ◌≤◌, ◌<◌}
-use lib.ListN.{get_or, set, length-set}
+use lib.ListN.{length, get_or, set, length-set}
 use lib.Seq.{get_or-set_same, get_or-set_other}
 use Rattle.theory_algebra.proofs.Cases.{case-le}
 use Rattle.theory_lists.proofs.Place.{spaced-apart}
@@ -14,21 +14,28 @@ use Rattle.matrix_rows.specs.Asked.{Pairs, TwoParts}
 use Rattle.matrix_rows.specs.declared.cells.Cells.{Cells}
 use Rattle.matrix_rows.proofs.exchange.Pairs.{next-exchanged}
 
+-- the numbers at x and y are in each other's place, and all others stay
+abbrev pub Traded : (b b' : List ℕ) (x y : ℕ) → Type 0
+Traded b b' x y = (length b' ≡ length b) × (get_or b' x 0 ≡ get_or b y 0) × (get_or b' y 0 ≡ get_or b x 0)
+    × ((z : ℕ) → z ≢ x → z ≢ y → get_or b' z 0 ≡ get_or b z 0)
+
+-- which is what two stores make of them
+pub stored : (b : List ℕ) {x y : ℕ} → x ≢ y → x < length b → y < length b → Traded b (set (set b x (get_or b y 0)) y (get_or b x 0)) x y
+stored b {x} {y} differ in-x in-y =
+    let half = set b x (get_or b y 0) in (
+      length-set half _ _ ∙ length-set b _ _,
+      get_or-set_other half y x _ 0 differ ∙ get_or-set_same b x _ 0 in-x,
+      get_or-set_same half y _ 0 (omega (arith, in-y, length-set b x (get_or b y 0))),
+      λ z not-x not-y. get_or-set_other half y z _ 0 not-y ∙ get_or-set_other b x z _ 0 not-x,
+    )
+
 -- place t, after the t places before it
-pub place-turn : {w one other t : ℕ} {b₀ b : List ℕ} → TwoParts w one other b₀ → CellExchanged t one other b₀ b → t < w
-    → CellExchanged (t + 1) one other b₀ (set (set b (one + t) (get_or b (other + t) 0)) (other + t) (get_or b (one + t) 0))
-place-turn {w = w} {one} {other} {t} {b = b} asked done lt =
+pub place-turn : {w one other t : ℕ} {b₀ b b' : List ℕ} → TwoParts w one other b₀ → CellExchanged t one other b₀ b → t < w
+    → Traded b b' (one + t) (other + t) → CellExchanged (t + 1) one other b₀ b'
+place-turn {w = w} {one} {other} {t} asked done lt (size, at_one, at_other, others) =
     let apart : (u v : ℕ) → u ≤ t → v ≤ t → one + u ≢ other + v = λ u v lu lv. asked.apart u v (omega arith) (omega arith) in
-    let half = set b (one + t) (get_or b (other + t) 0) in
-    let both = set half (other + t) (get_or b (one + t) 0) in
-    let at_one : get_or both (one + t) 0 ≡ get_or b (other + t) 0 =
-    get_or-set_other half _ _ _ 0 (apart t t (omega arith) (omega arith)) ∙ get_or-set_same b _ _ 0 (omega (arith, asked.one_fits, done.size)) in
-    let at_other : get_or both (other + t) 0 ≡ get_or b (one + t) 0 =
-    get_or-set_same half _ _ 0 (omega (arith, asked.other_fits, done.size, length-set b (one + t) (get_or b (other + t) 0))) in
-    let others : (x : ℕ) → x ≢ one + t → x ≢ other + t → get_or both x 0 ≡ get_or b x 0 =
-    λ x not_one not_other. get_or-set_other half _ x _ 0 not_other ∙ get_or-set_other b _ x _ 0 not_one in
     record {
-      size = length-set half _ _ ∙ length-set b _ _ ∙ done.size;
+      size = size ∙ done.size;
       exchanged = λ _ u _ lu. case-le (suc u) t
           (λ before. let (in_one, in_other) = done.exchanged 0 u (omega arith) before in (
             others _ (λ same. omega arith) (apart u t (omega arith) (omega arith)) ∙ in_one,
